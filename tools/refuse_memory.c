@@ -10,7 +10,7 @@
  * given its last reply, and another when its twin has; both still have all that replied. What a refused call took is
  * free again by then, or is the room that a later call used. So the twin, which never had the call, has no fewer blocks
  * than the run, but for those of the program's own texts, which are as many in a run in which nothing is refused. (It
- * has more where a collection was undone: what was put back has no room to spare.) At the end no block is left.
+ * has more where a collection was refused: copies that streams keep have no room to spare.) At the end no block is left.
  *
  * At the end REFUSE_COUNT, a file, is given how many requests there were, how many of them were refused, how many
  * blocks more the twin had than the run, and how many are left.

@@ -1,6 +1,6 @@
 #!/bin/sh
-# Prints how many instructions a call takes in each case, and how long threads take that record at one provider; or only
-# the cases that are named: measure.sh [CASE..]
+# Prints how many instructions a call takes in each case, and how many records a second threads make at one provider; or
+# only the cases that are named: measure.sh [CASE..]
 #
 # A case is three scripts (src/main.rt says what each is for). Valgrind counts what the functions named `counted_..` do,
 # with all that they call, in the program as `rt run` builds it. That is done for two numbers of calls, and the
@@ -67,6 +67,17 @@ known() {
     next
     last
     echo "record 0 u:1 $then"
+}
+
+# Records at an instrument of this sort of this many sets in turn, each of which was recorded before.
+known_sets() {
+    sort=$1 number=$2
+    shift 2
+    instrument "$sort" "$@"
+    sets 0 "$number"
+    next
+    last
+    sets 0 "$number"
 }
 
 # Records through a handle.
@@ -147,22 +158,31 @@ case_named() {
     case $1 in
         typed_bound*) made_by="typed bound" ;;
         typed_*) made_by="typed add" ;;
-        worker_bound*) made_by="worker bound" ;;
-        worker_series*) made_by="worker series" ;;
+        worker_bound*) made_by="worker bound 100" ;;
+        worker_series*) made_by="worker series 100" ;;
+        worker_histogram*) made_by="worker histogram 100" ;;
+        worker_gauge*) made_by="worker gauge 100" ;;
         worker_lists) made_by="worker lists" ;;
-        worker*) made_by="worker add" ;;
+        worker4_ten | worker4_ten_submit) made_by="worker add 10" ;;
+        worker4_hundred*) made_by="worker add 1" ;;
+        worker*) made_by="worker add 100" ;;
         *) made_by= ;;
     esac
     case $1 in
         *_submit) counted=counted_submit ;;
-        *) counted="counted_calls counted_adds counted_bound_adds counted_worker_adds counted_worker_series_adds counted_worker_bound_adds counted_submit counted_expositions counted_lines" ;;
+        *) counted="counted_calls counted_adds counted_bound_adds counted_worker_adds counted_worker_records counted_worker_series_adds counted_worker_bound_adds counted_submit counted_expositions counted_lines" ;;
     esac
     case ${1#typed_} in
         known0) known $counter - - "$one" ;;
         known1) known $counter "$(attributes 0)" "$(attributes 0)" "$one" ;;
-        known4 | worker4 | worker4_submit | worker_lists | worker_series4 | worker_series4_submit | worker_bound4 | worker_bound4_submit | threads)
+        known4 | worker4 | worker4_submit | worker_lists | worker_series4* | worker_bound4*)
             known $counter "$rising" "$rising" "$one"
             ;;
+        worker4_ten*) known_sets $counter 10 "$one" ;;
+        worker4_hundred*) known_sets $counter 100 "$one" ;;
+        worker4_two_readers*) known_sets $counter 10 "$one" "$one" ;;
+        worker_histogram4*) known_sets u64_histogram 10 "$one" ;;
+        worker_gauge4*) known_sets u64_gauge 10 "$one" ;;
         known10) known $counter "$ten" "$ten" "$one" ;;
         known4_first_order) known $counter "$falling" "$falling" "$one" ;;
         known4_other_order) known $counter "$rising" "$falling" "$one" ;;
@@ -247,31 +267,28 @@ row() {
         'BEGIN { printf "%-24s %12.0f\n", name, work / parts }'
 }
 
-# How long 1, 2 and 4 threads take that make a million records each, one after another under the lock and by workers, in
-# seconds of one run, and how often the second goes into the first.
+# The scripts of timed records: this many sets, each of which was recorded before.
+timed() {
+    known_sets u64_counter "$1" "reader cumulative" | awk '$0 == "---" && ++scripts == 1 { getline; next } { print }'
+}
+
+# How many million records a second 1, 2 and 4 threads make, all together, if each makes half a million: under the lock or
+# by workers, by lists, by names of series or through handles. A line tells how many series there are, and how many records
+# a batch has. Each number is the median of five rounds, of which each times everything once, so that whatever else the
+# machine does slows all alike; it is 0 if records are missing.
 threads() {
     is_wanted threads || return 0
-    case_named threads | awk '$0 == "---" && ++scripts == 1 { getline; next } { print }' >"$scripts"
-    out/otel_bench threads 1000000 <"$scripts" | awk '
-        { seconds[$1, $2] = $4; records[$1, $2] = $3 }
-        END {
-            printf "%-24s %12s %12s %12s\n", "threads", "lock", "worker", "ratio"
-            for (n = 1; n <= 4; n *= 2) {
-                lock = seconds["lock", n]
-                worker = seconds["worker_series", n]
-                printf "%-24s %12.3f %12.3f %12.2f\n", "series by name, " n, lock, worker, lock / worker
-                if (records["worker_series", n] != 1000000 * n) print "records are missing"
-            }
-            for (way = 0; way < 2; way++) for (n = 1; n <= 4; n *= 2) {
-                end = way ? "_bound" : ""
-                lock = seconds["lock" end, n]
-                worker = seconds["worker" end, n]
-                name = (way ? "through a handle" : "4 known attributes") ", " n
-                printf "%-24s %12.3f %12.3f %12.2f\n", name, lock, worker, lock / worker
-                if (records["lock" end, n] != 1000000 * n || records["worker" end, n] != 1000000 * n)
-                    print "records are missing"
-            }
-        }'
+    made_by=
+    printf '%-24s %12s %12s %12s\n' threads 1 2 4
+    for round in 1 2 3 4 5; do
+        for shape in "10 100" "10 10" "100 1"; do
+            timed "${shape% *}" >"$scripts"
+            out/otel_bench threads 500000 "${shape#* }" <"$scripts" | sed "s/^/$shape /"
+        done
+    done | awk '{ print $1, $1 * $2, $3, $4, ($5 == 500000 * $4) * $5 / $6 / 1000000 }' |
+        sort -k 1,1n -k 2,2nr -k 3,3 -k 4,4n -k 5,5n |
+        awk 'NR % 5 == 3 { speeds = speeds sprintf(" %12.2f", $5) }
+            NR % 15 == 0 { printf "%-24s%s\n", $3 " " $1 " " $2, speeds; speeds = "" }'
 }
 
 # How many of a million records, each with a list of attributes that is new, a worker of a program hands in that may have
@@ -297,8 +314,13 @@ done
 for name in past_limit4 typed_past_limit4; do
     row $name 1000 6000 1
 done
-for name in worker4 worker4_submit worker_series4 worker_series4_submit worker_bound4 worker_bound4_submit; do
+for name in worker4 worker4_submit worker4_ten worker4_ten_submit worker4_hundred_submit worker_series4 \
+    worker_series4_submit worker_bound4 worker_bound4_submit; do
     row $name 10 60 100
+done
+for name in worker4_ten_long worker4_ten_long_submit worker4_two_readers_submit worker_histogram4_submit \
+    worker_gauge4_submit; do
+    row $name 10 60 1000
 done
 for name in end2000 end4000 end8000; do
     row $name 20 100 1

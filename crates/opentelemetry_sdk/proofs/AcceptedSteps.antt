@@ -1,5 +1,6 @@
 -- What records and other calls do to what all instruments have accepted.
-use Rattle.std.proofs.Common.{◌≡◌, ◌∙◌, ⊎_elim, ℕ, ◌+◌, false, [], Option, Some, None, Result, Ok, Err, length, refl, sym, ap, subst, true≢false}
+use Rattle.std.proofs.Common.{◌≡◌, ◌∙◌, ⊎_elim, ℕ, ◌+◌, false, List, [], ◌∷◌, map, sum_by, arith, Option, Some, None, Result, Ok, Err, length, refl, sym, ap, subst, true≢false}
+use Rattle.std.proofs.lemmas.List.Sums.{sum_by-cons}
 use Rattle.std.specs.Prelude.{◌%◌, ◌^◌, OnOk, IfErr}
 use Rattle.otel_common.specs.declared.faults.Fault.{Fault}
 use Rattle.otel_model_stream.specs.Folds.{Amount, wrap}
@@ -15,7 +16,7 @@ use Rattle.otel_model.specs.Books.{count_in, sum_in, one_each, bits_of, added_by
 use Rattle.otel_model.proofs.Accepting.{call_law}
 use Rattle.otel_model.proofs.Plus.{plus_zero}
 use Rattle.opentelemetry_sdk.specs.Correspondence.{fault_of, number_of, reply_from}
-use Rattle.opentelemetry_sdk.specs.Pending.{is_record, call_in, bits_in, IsDone, IsRefused}
+use Rattle.opentelemetry_sdk.specs.Pending.{is_record, call_in, bits_in, IsDone, AreDone, IsRefused}
 use Rattle.opentelemetry_sdk.specs.declared.metrics.shared.pending.PendingRecord.{PendingRecord}
 use Rattle.opentelemetry_sdk.specs.declared.metrics.shared.pending.PendingRecord.TheVariants as pending
 
@@ -75,6 +76,17 @@ sum_of_one old (pending.Bound h v) new done = (call_law [] old (RecordBound h (n
 pub made-sum : (r : Result (Unit {0}) Fault) (old : State) (p : PendingRecord) (new : State) → IsResult r old p new → OnOk r (sum_in new % 2 ^ 64 ≡ (sum_in old + bits_in p) % 2 ^ 64)
 made-sum (Ok u) old p new step = sum_of_one old p new step
 made-sum (Err f) old p new step = tt
+
+-- records that are made one after another
+pub done-adds : (old : State) (ps : List PendingRecord) (new : State) → AreDone old (map call_in ps) new
+    → (count_in new % 2 ^ 64 ≡ (count_in old + length ps) % 2 ^ 64) × (sum_in new % 2 ^ 64 ≡ (sum_in old + sum_by bits_in ps) % 2 ^ 64)
+done-adds old [] new done = (ap (λ (st : State). count_in st % 2 ^ 64) done ∙ sym (ap wrap (plus_zero (count_in old))), ap (λ (st : State). sum_in st % 2 ^ 64) done ∙ sym (ap wrap (plus_zero (sum_in old))))
+done-adds old (p ∷ ps) new done =
+    let rest = done-adds done.0 ps new done.2 in
+    let count = count_of_one old p done.0 done.1 in
+    let sum = sum_of_one old p done.0 done.1 in
+    let more : sum_by bits_in (p ∷ ps) ≡ bits_in p + sum_by bits_in ps = sum_by-cons bits_in p ps in
+    (omega (arith, rest.0, count), omega (arith, rest.1, sum, more))
 
 -- ======== other calls ========
 adds_none : (amount : Amount → ℕ) (call : Call) → is_record call ≡ false → added_by amount call ≡ 0

@@ -1,5 +1,5 @@
 -- Handles at all readers, and the calls on them as the machine makes them.
-use Rattle.std.proofs.Common.{◌≡◌, ℕ, ◌+◌, ◌<◌, ◌==◌, Bool, true, false, cond, List, [], ◌∷◌, ◌++◌, map, length, get_or, set, Option, Some, None, slice_get, nat_eq, refl, sym, ◌∙◌, ap, subst, arith, zero, suc, ne_eqb}
+use Rattle.std.proofs.Common.{◌≡◌, ℕ, ◌+◌, ◌<◌, ◌≤◌, ◌==◌, Bool, true, false, cond, List, [], ◌∷◌, ◌++◌, map, length, get_or, set, Option, Some, None, slice_get, nat_eq, refl, sym, ◌∙◌, ap, subst, arith, zero, suc, ne_eqb}
 use Rattle.std.proofs.lemmas.Bool.Decides.{nat_tests}
 use Rattle.std.specs.List.{AllByRecursion as EachOf}
 use Rattle.std.specs.Map.{lookup, remove_entry}
@@ -14,7 +14,7 @@ use Rattle.otel_model.specs.Refusals.{bind_refusal, instrument_held, held_refusa
 use Rattle.otel_model.specs.State.{InstrumentState, LiveHandle, Shared, ReaderPart, State}
 use Rattle.otel_model.specs.Steps.{Step, reply_by, after_by}
 use Rattle.otel_model.specs.Lawful.{HandlesAreSound, PartIsLawful, TakesRecords}
-use Rattle.otel_model.proofs.Handles.{unfed-unheld, new-unheld}
+use Rattle.otel_model.proofs.Handles.{unfed-unheld, later-unheld}
 use Rattle.opentelemetry_sdk.specs.pipeline.Handles.{FeedsSynchronous, IsNewAt, IsHeldByFed, IsReadyToBindAt, part_after_bind}
 use Rattle.opentelemetry_sdk.specs.pipeline.Pipelines.{Piped, part_of}
 use Rattle.opentelemetry_sdk.proofs.pipeline.Handles.{bound-sent}
@@ -49,10 +49,14 @@ pub feeds-synchronous : (n : ℕ) (is : List InstrumentState) (i : InstrumentSta
 feeds-synchronous n is i [] at sync all = tt
 feeds-synchronous n is i (p ∷ ps) at sync all = (λ x fed. ap is_observable (all.0.kinds n x i fed at) ∙ sync, feeds-synchronous n is i ps at sync all.1)
 
--- no stream has the next handle
+-- no stream has a handle of a number that is none of the handles so far
+pub later-new : (s : Shared) (ps : List ReaderPart) (h : ℕ) → s.next ≤ h → HandlesAreSound s → EachOf (PartIsLawful s.live s.instruments) ps → EachOf (IsNewAt h) ps
+later-new s [] h later sound all = tt
+later-new s (p ∷ ps) h later sound all = (later-unheld s p h later sound all.0, later-new s ps h later sound all.1)
+
+-- in particular the next handle
 pub next-new : (s : Shared) (ps : List ReaderPart) → HandlesAreSound s → EachOf (PartIsLawful s.live s.instruments) ps → EachOf (IsNewAt s.next) ps
-next-new s [] sound all = tt
-next-new s (p ∷ ps) sound all = (new-unheld s p sound all.0, next-new s ps sound all.1)
+next-new s ps sound all = later-new s ps s.next (omega arith) sound all
 
 -- a stream that the handle's instrument does not feed doesn't have it
 pub held-fed : (s : Shared) (h n : ℕ) (ps : List ReaderPart) → HandlesAreSound s → instrument_held h s.live ≡ Some n → EachOf (PartIsLawful s.live s.instruments) ps → EachOf (IsHeldByFed n h) ps

@@ -5,11 +5,13 @@ pub mod Fresh
 pub mod Full
 pub mod Headlines
 pub mod Held
+pub mod Holding
 pub mod Identities
 pub mod KeptRuns
 pub mod KnownRuns
 pub mod Lists
 pub mod Mapped
+pub mod Marks
 pub mod Outcomes
 pub mod Reached
 pub mod Runs

@@ -9,12 +9,12 @@ use Rattle.opentelemetry_sdk.specs.Pending.{call_in, bits_in, IsDone, AreDone, M
 use Rattle.opentelemetry_sdk.specs.declared.metrics.shared.pending.PendingRecord.{PendingRecord}
 
 -- one more call at the end
-done-more : (old : State) (calls : List Call) (mid : State) (call : Call) (new : State) → AreDone old calls mid → IsDone mid call new → AreDone old (calls ++ call ∷ []) new
+pub done-more : (old : State) (calls : List Call) (mid : State) (call : Call) (new : State) → AreDone old calls mid → IsDone mid call new → AreDone old (calls ++ call ∷ []) new
 done-more old [] mid call new is done = (new, subst (λ st. IsDone st call new) is done, refl)
 done-more old (c ∷ calls) mid call new are done = (are.0, are.1, done-more are.0 calls mid call new are.2 done)
 
 -- the first of what is left goes to the end of what was taken
-taken-more : (ps : List PendingRecord) (n : ℕ) (p : PendingRecord) (rest : List PendingRecord) → n < length ps → p ∷ rest ≡ drop n ps → (take (n + 1) ps ≡ take n ps ++ p ∷ []) × (rest ≡ drop (n + 1) ps)
+pub taken-more : (ps : List PendingRecord) (n : ℕ) (p : PendingRecord) (rest : List PendingRecord) → n < length ps → p ∷ rest ≡ drop n ps → (take (n + 1) ps ≡ take n ps ++ p ∷ []) × (rest ≡ drop (n + 1) ps)
 taken-more ps n p rest lt is =
     let next = drop-cons ps n p lt in
     let here : p ≡ get_or ps n p = cc in

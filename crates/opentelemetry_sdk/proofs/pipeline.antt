@@ -2,6 +2,7 @@ pub mod Answered
 pub mod Asked
 pub mod Builds
 pub mod Collects
+pub mod Drafted
 pub mod Identities
 pub mod Observes
 pub mod Once
@@ -14,8 +15,6 @@ pub mod Meets
 pub mod Places
 pub mod Records
 pub mod Shows
-pub mod Taken
-pub mod Undone
 pub mod ViewLemmas
 pub mod Writes
 pub mod Handles

@@ -1,6 +1,7 @@
 -- What a provider, its parts, its calls, a shared provider and its workers are, for the contracts of programs. The words
 -- of the crates below are passed on: those that programs use most by short paths, all of them by the crate's name and
 -- their path in it, as `otel_stream.Settings` and `otel_common.declared.metrics.Temporality`.
+pub mod Batches
 pub mod Callbacks
 pub mod Checks
 pub mod Cores

@@ -4,6 +4,7 @@ use Rattle.otel_common.specs.declared.faults.Fault.{Fault}
 use Rattle.otel_common.specs.declared.faults.Fault.TheVariants.{LedgerFull}
 use Rattle.opentelemetry_sdk.specs.Correspondence.{fault_of, number_of}
 use Rattle.opentelemetry_sdk.specs.Known.{IsKnown}
+pub use Rattle.otel_model.specs.Batches.{IsDone, AreDone}
 use Rattle.otel_model.specs.Calls.{Call, Meter, Build, Record, Bind, RecordBound, Unbind, Collect, Flush, Shutdown, Reply}
 use Rattle.otel_model.specs.Demands.{Views}
 use Rattle.otel_model.specs.State.{State}
@@ -35,18 +36,9 @@ bits_in (pending.Plain instrument value attributes) = (number_of value).amount.b
 bits_in (pending.Bound handle value) = (number_of value).amount.bits
 
 -- ======== steps ========
--- the call is answered by `Done`, whatever the views
-abbrev pub IsDone : State → Call → State → Type 0
-IsDone old call new = (views : Views) → Step views old call Reply.Done new
-
 -- the call is refused with this fault and changes nothing, whatever the views
 abbrev pub IsRefused : State → Call → Fault → Type 0
 IsRefused st call f = (views : Views) → Step views st call (Reply.Refused (fault_of f)) st
-
--- the calls are made one after another, and each is answered by `Done`
-abbrev pub AreDone : State → List Call → State → Type 0
-AreDone old [] new = new ≡ old
-AreDone old (call ∷ calls) new = (mid : State) × IsDone old call mid × AreDone mid calls new
 
 -- ======== submissions ========
 -- the first of the pending records is made, and the 64 bits of its value are added to v

@@ -40,10 +40,10 @@ mod building;
 mod collecting;
 pub mod defaults;
 pub mod demands;
+mod draft;
 mod each_stream;
 mod metric_stream;
 mod observing;
-mod saved;
 mod vectors;
 
 /// What one reader answered, its streams in order of making, and, for each instrument, the streams that it feeds.
@@ -301,7 +301,7 @@ impl Pipeline {
     /// observed sums are empty. If it fails, the observations are undone.
     ///
     /// Goes once over streams, points and meters. Copies the resource and the scopes, and also the entries of each
-    /// stream that takes an observation in, to undo that if need be. Shares the sets that are shown, and copies none.
+    /// stream that takes an observation in, for a draft. Shares the sets that are shown, and copies none.
     pub fn collect(
         &mut self,
         resource: &Resource,

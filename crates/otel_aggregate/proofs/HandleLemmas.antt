@@ -10,7 +10,7 @@ use Rattle.otel_model_stream.specs.Sets.{AttributeSet, none_set, over_set}
 use Rattle.otel_model_stream.specs.Folds.{Fold, Sample}
 use Rattle.otel_model_stream.specs.Events.{Handles, held_by, without}
 use Rattle.otel_model_stream.specs.Entries.{Entry, Table, new_entry, is_of, has, number_counted, place, on, write, take_handle, drop_handle, reset, at_entry, stays, evicted_table}
-use Rattle.otel_aggregate.specs.value_map.Numbers.{is_placed, handles_in, handles_at, entry_without_handles, without_handles}
+use Rattle.otel_aggregate.specs.value_map.Numbers.{is_placed, handles_in, handles_at}
 use Rattle.otel_aggregate.proofs.value_map.KeyedLemmas.{same_set, set_eq-self, set_eq-flip}
 use Rattle.otel_aggregate.specs.Links.{handles_at_set, IsCounted, AreHeld}
 
@@ -60,24 +60,6 @@ few-counted x hs (e ∷ es) h = by (is_of x e) (few-counted x hs es h.1)
 
 pub held-few : (t : Table) (hs : Handles) → AreHeld t hs → length hs < 2 ^ 63 → (x : AttributeSet) → handles_at x t < 2 ^ 64 - 1
 held-few t hs held few x = omega (arith, few-counted x hs (t.none ∷ t.entries) (held.none, held.entries))
-
--- ======== no handles ========
-unheld-entries : (es : List Entry) → AllByRecursion (IsCounted []) es → map entry_without_handles es ≡ es
-unheld-entries [] h = refl
-unheld-entries (e ∷ es) h = λ i. record e { handles = sym h.0 i } ∷ unheld-entries es h.1 i
-
-pub held-without : (t : Table) → AreHeld t [] → without_handles t ≡ t
-held-without t held = λ i. record { none = record t.none { handles = sym held.none i }; entries = unheld-entries t.entries held.entries i }
-
-counted-unheld : (es : List Entry) → map entry_without_handles es ≡ es → AllByRecursion (IsCounted []) es
-counted-unheld [] h = tt
-counted-unheld (e ∷ es) h =
-    let first : entry_without_handles e ≡ e = cc in
-    let rest : map entry_without_handles es ≡ es = cc in
-    (sym (ap (λ (x : Entry). x.handles) first), counted-unheld es rest)
-
-pub unheld-held : (t : Table) → without_handles t ≡ t → AreHeld t []
-unheld-held t h = record { none = sym (ap (λ (x : Table). x.none.handles) h); entries = counted-unheld t.entries (ap (λ (x : Table). x.entries) h); placed = tt }
 
 -- ======== a change of an entry ========
 -- what keeps the set

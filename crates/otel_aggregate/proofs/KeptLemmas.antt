@@ -13,14 +13,13 @@ use Rattle.otel_model_stream.specs.Folds.{Sample, Fold, Total, Last, Spreads, re
 use Rattle.otel_model_stream.specs.Entries.{Entry, Table, new_entry, is_of, has, number_counted, entries_with_place, entry_for, on, write, take_handle, drop_handle, reset, stays, points, point_of_entry}
 use Rattle.otel_model_stream.specs.Maps.{MapState, KnownMap, new_map, measured_map, measured_list, bound_map, updated_bound, unbound_map, evicted_map, drained_map}
 use Rattle.otel_aggregate.specs.value_map.Contents.{MapContents, known_of}
-use Rattle.otel_aggregate.specs.value_map.Numbers.{entry_without_handles, without_handles}
 use Rattle.otel_aggregate.specs.value_map.Slots.{HasForm}
 use Rattle.otel_aggregate.specs.declared.settings.AnySettings.{AnySettings}
 use Rattle.otel_aggregate.specs.declared.settings.AnySettings.TheVariants as kinds
 use Rattle.otel_aggregate.specs.Any.{Form, form_of, aggregate_of, drains_of}
 use Rattle.otel_aggregate.specs.Kept.{form_of_fold, IsWithin, IsWithinIfSome, IsKept, AreKept, IsKeptMap, IsReportedOf, AreShowable, state_of}
 use Rattle.otel_aggregate.specs.Links.{Link}
-use Rattle.otel_aggregate.proofs.ObservedLemmas.{drained-measured, drained-restored}
+use Rattle.otel_aggregate.proofs.ObservedLemmas.{drained-measured, drained-exchanged}
 
 -- ======== folds ========
 within-either : (s : Bool) (x y : ℤ) (b : Bool) → IsWithin s x → IsWithin s y → IsWithin s (cond b x y)
@@ -114,9 +113,6 @@ kept-evicted s k m h =
 pub kept-drained : (s : Bool) (k : Form) (m : MapState) → IsKeptMap s k m → IsKeptMap s k (drained_map m)
 kept-drained s k m h = (h.0, (kept-cleared s k m.table.none.fold h.1.0, tt))
 
-kept-unheld : (s : Bool) (k : Form) (t : Table) → AreKept s k t → AreKept s k (without_handles t)
-kept-unheld s k t h = (h.0, all-map s k entry_without_handles (λ (e : Entry). λ (h : IsKept s k e.fold). h) t.entries h.1)
-
 -- ======== steps of a map ========
 -- a record of the set that is prepared
 pub kept-prepared : (s : Bool) (k : Form) (old new : MapState) (pending : Option AttributeSet) (v : Sample) → IsWithin s v.wide → IsSome pending → ((x : AttributeSet) → pending ≡ Some x → new ≡ measured_map x v old) → IsKeptMap s k old → IsKeptMap s k new
@@ -166,21 +162,19 @@ pub reported-same : (k : Form) (old new : MapState) (links : List Link) (room : 
 reported-same k old new links room None e is = tt
 reported-same k old new links room (Some r) e is = (is.0 ∙ sym e, is.1, is.2, is.3)
 
--- ======== saved entries ========
-pub kept-saved : (s : Bool) (form : Form) (m : MapState) (t : Table) → t ≡ without_handles m.table → IsKeptMap s form m → AreKept s (form_of_fold t.none.fold) t
-kept-saved s form m t e kept =
-    subst (λ (x : Table). AreKept s (form_of_fold x.none.fold) x) (sym e)
-    (subst (λ (k : Form). AreKept s k (without_handles m.table)) (sym kept.1.0.0) (kept-unheld s form m.table kept.1))
-
+-- ======== drafts ========
 pub kept-like : {s t : Bool} {k l : Form} (x : Table) → t ≡ s → l ≡ k → AreKept t l x → AreKept s k x
 kept-like {s} {t} {k} {l} x number form kept = subst (λ b. AreKept b k x) number (subst (λ (f : Form). AreKept t f x) form kept)
 
+pub kept-moved : {s t : Bool} (k : Form) (m : MapState) (x : Table) → s ≡ t → x ≡ m.table → IsKeptMap s k m → AreKept t (form_of_fold x.none.fold) x
+kept-moved k m x number is kept = kept-like x number (sym (ap (λ (t : Table). form_of_fold t.none.fold) is ∙ kept.1.0.0)) (subst (AreKept _ k) (sym is) kept.1)
+
 -- with another table, of entries that no handle holds
-pub reported-restored : {A : Type 0} (meaning : A → Fold) (s : Bool) (k : Form) (m : MapState) (t : Table) (links : List Link) (room : Bool) (o : Option MapState) → HasForm meaning m.table → HasForm meaning t → IsKeptMap s k m → AreKept s k t → t.none.handles ≡ m.table.none.handles
+pub reported-exchanged : {A : Type 0} (meaning : A → Fold) (s : Bool) (k : Form) (m : MapState) (t : Table) (links : List Link) (room : Bool) (o : Option MapState) → HasForm meaning m.table → HasForm meaning t → IsKeptMap s k m → AreKept s k t → t.none.handles ≡ m.table.none.handles
     → IsReportedOf k m links room o → IsReportedOf k (record m { table = t }) links room o
-reported-restored meaning s k m t links room None was is before after held reported = tt
-reported-restored meaning s k m t links room (Some r) was is before after held reported =
-    reported-same k m (record m { table = t }) links room (Some r) (drained-restored meaning m t was is (before.1.0.0 ∙ reported.3) (after.0.0 ∙ reported.3) held) reported
+reported-exchanged meaning s k m t links room None was is before after held reported = tt
+reported-exchanged meaning s k m t links room (Some r) was is before after held reported =
+    reported-same k m (record m { table = t }) links room (Some r) (drained-exchanged meaning m t was is (before.1.0.0 ∙ reported.3) (after.0.0 ∙ reported.3) held) reported
 
 -- ======== points ========
 all-points : (s : Bool) (k : Form) (es : List Entry) → All s k es → AreShowable s k (map point_of_entry es)

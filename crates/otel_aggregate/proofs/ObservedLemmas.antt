@@ -49,9 +49,9 @@ reset-form meaning t h last =
     ∙ ap (λ f. record { set = none_set; counted = false; updated = false; fold = f; handles = t.none.handles }) (cleared-last (meaning h.0) (ap (λ (e : Entry). form_of_fold e.fold) (sym h.1) ∙ last))
 
 -- a map of last values is drained to the same with another table of these
-pub drained-restored : {A : Type 0} (meaning : A → Fold) (m : MapState) (t : Table) → HasForm meaning m.table → HasForm meaning t → form_of_fold m.table.none.fold ≡ LastValues → form_of_fold t.none.fold ≡ LastValues → t.none.handles ≡ m.table.none.handles
+pub drained-exchanged : {A : Type 0} (meaning : A → Fold) (m : MapState) (t : Table) → HasForm meaning m.table → HasForm meaning t → form_of_fold m.table.none.fold ≡ LastValues → form_of_fold t.none.fold ≡ LastValues → t.none.handles ≡ m.table.none.handles
     → drained_map (record m { table = t }) ≡ drained_map m
-drained-restored meaning m t was is before after held =
+drained-exchanged meaning m t was is before after held =
     ap (λ (none : Entry). record m { table = record { none = none; entries = [] } })
     (reset-form meaning t is after ∙ ap (λ n. record { set = none_set; counted = false; updated = false; fold = Last 0; handles = n }) held ∙ sym (reset-form meaning m.table was before))
 

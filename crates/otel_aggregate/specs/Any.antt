@@ -15,7 +15,6 @@ use Rattle.otel_model_stream.specs.Entries.{Table, Point}
 use Rattle.otel_model_stream.specs.Events.{held_by}
 use Rattle.otel_model_stream.specs.Maps.{draining_points}
 use Rattle.otel_model_stream.specs.Data.{natural_of, signed_of}
-use Rattle.otel_aggregate.specs.value_map.Numbers.{without_handles}
 use Rattle.otel_aggregate.specs.declared.settings.AnySettings.{AnySettings}
 use Rattle.otel_aggregate.specs.declared.settings.AnySettings.TheVariants as settings
 use Rattle.otel_aggregate.specs.Data.{sum_data, gauge_data, histogram_data}
@@ -138,7 +137,7 @@ state_after_collection now a = cond a.drains (with_observed a (drained_at now (o
 abbrev pub any_after_collection : ℕ → AggregateContents → AggregateContents
 any_after_collection now a = record (state_after_collection now a) { pending = cond (a.drains || a.state.resets) None a.pending }
 
--- ======== saved entries ========
+-- ======== drafts ========
 -- what a stream keeps of a set's records: their sum, the last of them, or how they spread
 pub data Form : Type 0 where
   Sums : Form
@@ -150,22 +149,22 @@ form_of Sum = Sums
 form_of LastValue = LastValues
 form_of (Histogram bounds has_min_max has_sum) = Spreads
 
--- the entries of a stream, with its number type and the form of what it keeps of each set
-pub record SavedContents : Type 0 where
+-- what a draft has: entries, their number type, and the form of what they keep
+pub record DraftContents : Type 0 where
   pub is_signed : Bool
   pub form : Form
   pub table : Table
 
--- the entries of this stream, without its handles
-abbrev pub saved_of : AggregateContents → SavedContents
-saved_of a = record { is_signed = a.is_signed; form = form_of a.state.aggregate; table = without_handles a.state.map_state.table }
+-- a draft with what this stream has
+abbrev pub draft_of : AggregateContents → DraftContents
+draft_of a = record { is_signed = a.is_signed; form = form_of a.state.aggregate; table = a.state.map_state.table }
 
--- the saved entries can replace those of the stream: the number type and the form are the same, and no handle is live
-pub record IsLike (saved : SavedContents) (a : AggregateContents) : Type 0 where
-  pub number : saved.is_signed ≡ a.is_signed
-  pub form : saved.form ≡ form_of a.state.aggregate
+-- the draft's entries can replace those of the stream: the number type and the form are the same, and no handle is live
+pub record IsLike (d : DraftContents) (a : AggregateContents) : Type 0 where
+  pub number : d.is_signed ≡ a.is_signed
+  pub form : d.form ≡ form_of a.state.aggregate
   pub unheld : a.live ≡ []
 
--- with the saved entries in place of its own; what was prepared is given up
-abbrev pub with_saved : SavedContents → AggregateContents → AggregateContents
-with_saved saved a = record a { state = record a.state { map_state = record a.state.map_state { table = saved.table } }; pending = None }
+-- with the draft's entries in place of its own; what was prepared is given up
+abbrev pub with_draft : DraftContents → AggregateContents → AggregateContents
+with_draft d a = record a { state = record a.state { map_state = record a.state.map_state { table = d.table } }; pending = None }

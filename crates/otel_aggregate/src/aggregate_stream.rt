@@ -5,16 +5,16 @@ ghost use Rattle.std.specs.Prelude.{◌≡◌, [], true, false, cond, None, Some
 ghost use Rattle.otel_common.specs.Temporalities.{resets};
 ghost use Rattle.otel_model_stream.specs.Sets.{set_of};
 ghost use Rattle.otel_model_stream.specs.Folds.{Last, wrap};
+ghost use Rattle.otel_model_stream.specs.Machine.{without_none_handles};
 ghost use Rattle.otel_model_stream.specs.Maps.{new_map};
 ghost use Rattle.otel_model_stream.specs.Totals.{points_total, size};
-ghost use Rattle.otel_aggregate.specs.value_map.Numbers.{without_handles};
-ghost use Rattle.otel_aggregate.specs.Any.{aggregate_of, is_monotonic_of, drains_of, amount_of, any_after_commit, any_after_none, any_after_record, is_taken, is_signed_value, any_with_room, any_after_bind, any_after_update, is_updated, any_after_unbind, metrics_now, any_points, any_after_collection, saved_of, IsLike, with_saved};
+ghost use Rattle.otel_aggregate.specs.Any.{aggregate_of, is_monotonic_of, drains_of, amount_of, any_after_commit, any_after_none, any_after_record, is_taken, is_signed_value, any_with_room, any_after_bind, any_after_update, is_updated, any_after_unbind, metrics_now, any_points, any_after_collection, draft_of, IsLike, with_draft};
 ghost use Rattle.otel_aggregate.specs.Kept.{IsWithin, state_of};
 ghost use Rattle.otel_aggregate.specs.Streams.{new_aggregate, is_known};
 
 use crate::any_aggregator::{AnyAggregator, AnyConfig};
+use crate::draft::AggregateDraft;
 use crate::links::{Links, add, make_room, number_in, number_near, take_out};
-use crate::saved::SavedAggregate;
 use crate::sets::allowed_keys::AllowedKeys;
 use crate::settings::AnySettings;
 use crate::value_map::ValueMap;
@@ -428,33 +428,31 @@ impl AggregateStream {
         }
     }
 
-    /// A copy of the entries, held by no handle, to be restored later. Takes memory even if there are no entries.
-    pub fn save(&self, alloc: Global) -> Result<SavedAggregate, Fault>
-        ensures saved { IfOk result (λ saved. saved ≡ saved_of self.now) }
+    /// A draft with copies of the entries. No handle may be live. Takes memory even if there are no entries.
+    pub fn draft(&self, alloc: Global) -> Result<AggregateDraft, Fault>
+        requires { self.now.live ≡ [] }
+        ensures draft { IfOk result (λ draft. draft ≡ draft_of self.now) }
         ensures only_memory { IsOkUnless result Fault.OutOfMemory }
     {
-        Ok(SavedAggregate {
+        Ok(AggregateDraft {
             is_signed: self.is_signed,
-            entries: self.map.save(alloc)?,
+            entries: self.map.draft(alloc)?,
         })
     }
 
-    /// Puts saved entries in place of the stream's own, and gives up a prepared record. No handle may be live. What
+    /// Exchanges the entries with those of a draft, and gives up a prepared record. No handle may be live. What
     /// observed sums reported stays unchanged. Takes no memory.
-    pub fn restore(&mut self, saved: SavedAggregate)
-        requires { IsLike saved self.old }
-        ensures { self.new ≡ with_saved saved self.old }
+    pub fn exchange(&mut self, draft: &mut AggregateDraft)
+        requires { IsLike draft.old self.old }
+        ensures stream { self.new ≡ with_draft draft.old self.old }
+        ensures draft { draft.new ≡ draft_of self.old }
     {
-        let SavedAggregate {
-            is_signed: _,
-            entries,
-        } = saved;
-        self.map.restore(entries);
+        self.map.exchange(&mut draft.entries);
     }
 
-    /// The law that no entry is held if no handle is live, and that observed sums have no handles.
+    /// The law that no handle holds the empty set's entry if none is live, and that observed sums have no handles.
     pub fn law_of_handles(&self)
-        ensures unheld { self.now.live ≡ [] → without_handles self.now.state.map_state.table ≡ self.now.state.map_state.table }
+        ensures unheld { self.now.live ≡ [] → without_none_handles self.now.state.map_state.table ≡ self.now.state.map_state.table }
         ensures observed { self.now.drains ≡ true → self.now.live ≡ [] }
     {
         let _room = self.room;

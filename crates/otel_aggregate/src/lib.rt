@@ -6,12 +6,12 @@
 pub mod aggregate_stream;
 pub mod aggregators;
 pub mod any_aggregator;
+pub mod draft;
 pub mod histogram;
 pub mod internal;
 pub mod last_value;
 pub mod links;
 pub mod precomputed_sum;
-pub mod saved;
 pub mod sets;
 pub mod settings;
 pub mod sum;

@@ -13,19 +13,19 @@ ghost use Rattle.otel_model_stream.specs.Sets.{AttributeSet, allowed_part, none_
 ghost use Rattle.otel_model_stream.specs.Totals.{points_total};
 ghost use Rattle.otel_aggregate.specs.value_map.Contents.{known_of, target_of, IsOverflowAt};
 ghost use Rattle.otel_aggregate.specs.value_map.Faults.{IsBindFault};
-ghost use Rattle.otel_aggregate.specs.value_map.Numbers.{number_of, is_number, without_handles, handles_at, AreNamed, AreNumbered, spelling_of, is_placed, KeepNumbers, KeepLeft};
+ghost use Rattle.otel_aggregate.specs.value_map.Numbers.{number_of, is_number, handles_at, AreNamed, AreNumbered, spelling_of, is_placed, KeepNumbers, KeepLeft};
 ghost use Rattle.otel_aggregate.specs.value_map.Slots.{HasForm, copies};
 
 use crate::aggregators::aggregator::Aggregator;
 use crate::sets::allowed_keys::AllowedKeys;
 use crate::sets::references::{kept_references, references_to};
+use crate::value_map::draft::Draft;
 use crate::value_map::hashed_key::{GivenAttributes, HashedSet, OwnedSet};
 use crate::value_map::hashing::SetHashBuilder;
 use crate::value_map::maker::{Copies, PointMaker};
 use crate::value_map::pending::{
     Pending, Prepared, form_led_to, led_to, make_ready, plan, take_slot,
 };
-use crate::value_map::saved::Saved;
 use crate::value_map::slots::Slot;
 use crate::value_map::table::Table;
 use otel_common::attributes::KeyValue;
@@ -33,14 +33,15 @@ use otel_common::faults::Fault;
 use otel_common::lists::SharedItems;
 use std::alloc::{AllocError, Global};
 use std::marker::Model;
+use std::mem::swap;
 
+pub mod draft;
 pub mod hashed_key;
 pub mod hashing;
 mod key_hasher;
 mod key_table;
 pub(crate) mod maker;
 mod pending;
-pub mod saved;
 pub mod sets;
 mod slots;
 mod table;
@@ -645,27 +646,32 @@ impl<A: Aggregator> ValueMap<A> {
         self.count = 0;
     }
 
-    /// A copy of the entries, held by no handle, to be restored later, which shares their sets. For a map without other
-    /// entries it takes memory for that of the empty set.
-    pub(crate) fn save(&self, alloc: Global) -> Result<Saved<A>, Fault>
-        ensures saved { IfOk result (λ saved. saved ≡ without_handles self.now.state.table) }
+    /// A draft with copies of the entries, which share their sets. For a map without other entries it takes memory for
+    /// that of the empty set.
+    pub(crate) fn draft(&self, alloc: Global) -> Result<Draft<A>, Fault>
+        ensures draft { IfOk result (λ draft. draft ≡ self.now.state.table) }
         ensures only_memory { IsOkUnless result Fault.OutOfMemory }
     {
-        Ok(Saved::of(self.table.copy(alloc)?))
+        let entries = self.table.copy(alloc)?;
+        let count = entries.count_counted();
+        Ok(Draft { entries, count })
     }
 
-    /// Puts saved entries in place of the map's own, and gives up a prepared record. Takes no memory. Entries may get
+    /// Exchanges the entries with those of a draft, and gives up a prepared record. Takes no memory. Entries may get
     /// other numbers, so no handle should be live.
-    pub(crate) fn restore(&mut self, saved: Saved<A>)
-        ensures state { self.new.state ≡ record self.old.state { table = saved } }
+    pub(crate) fn exchange(&mut self, draft: &mut Draft<A>)
+        ensures state { self.new.state ≡ record self.old.state { table = draft.old } }
+        ensures draft { draft.new ≡ self.old.state.table }
         ensures unprepared { self.new.pending ≡ None }
         ensures was { HasForm A.meaning self.old.state.table }
-        ensures is { HasForm A.meaning saved }
-        ensures unheld { without_handles saved ≡ saved }
+        ensures is { HasForm A.meaning draft.old }
     {
         self.pending.give_up();
-        saved.put_into(&mut self.table);
-        self.count = self.table.count_counted();
+        // These tell the prover what is kept of the empty set.
+        self.table.law_of_empty_set();
+        draft.entries.law_of_empty_set();
+        swap(&mut self.table, &mut draft.entries);
+        swap(&mut self.count, &mut draft.count);
     }
 
     /// The aggregator of a set as a draining collection would show it, or `None` if it would show no point of the set.

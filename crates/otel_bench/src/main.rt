@@ -7,17 +7,20 @@
 //!
 //! - `typed add`: a counter as a value adds 1 with the attributes of each record in turn;
 //! - `typed bound`: a handle as a value, with the attributes of the first record, adds 1;
-//! - `worker add`, `worker series`, `worker bound`, `worker lists`: a worker of the shared provider hands in batches of 100
-//!   such records, with the attributes of the first one, which `series` names once a batch; for `lists` each has one that
-//!   is new. The argument says how many batches;
+//! - `worker add ROUNDS`: a worker of the shared provider hands in batches, and the argument says how many. A batch is this
+//!   many rounds over the records, and for each a counter adds 1 with its attributes. `worker series ROUNDS` names the series
+//!   of these attributes first, `worker bound ROUNDS` binds handles with them, and for `worker histogram ROUNDS` and
+//!   `worker gauge ROUNDS` the instrument is a histogram or a gauge;
+//! - `worker lists`: the same in batches of 100 records of a counter, each with attributes that are new;
 //! - `export prometheus`, `export openmetrics`, `export otlp`: what the first reader collects is printed so, in memory.
 //!
 //! How many of the counted calls were carried out is printed. After a further `---` come three scripts more, for another
 //! provider.
 //!
-//! With the arguments `threads` and a number, it prints how many seconds 1, 2 and 4 threads take that make this many
-//! records each. Standard input has two scripts then: what is done once, and the record. With the argument
-//! `refused_memory`, perhaps with the number of a scenario, it makes calls for which memory may be refused.
+//! With the arguments `threads` and two numbers, it prints how many seconds 1, 2 and 4 threads take that make as many
+//! records each as the first says, in batches of as many rounds as the second says. Standard input has two scripts then: what
+//! is done once, and the records of a round. With the argument `refused_memory`, perhaps with the number of a scenario, it
+//! makes calls for which memory may be refused.
 #![tactic(auto)]
 
 mod counted;
@@ -106,8 +109,10 @@ fn run<R: Print + Clock + Threads + Wait + Sync>(
 ) -> Result<(), Error> {
     match words {
         [times] => count_all(rt, alloc, scripts, times.as_str().parse::<u64>()?),
-        [name, records] if name.as_str() == "threads" => {
-            time_threads(rt, alloc, scripts, records.as_str().parse::<u64>()?)
+        [name, records, rounds] if name.as_str() == "threads" => {
+            let records = records.as_str().parse::<u64>()?;
+            let rounds = rounds.as_str().parse::<u64>()?;
+            time_threads(rt, alloc, scripts, records, rounds)
         }
         _ => bail!("the argument is how many calls are counted"),
     }

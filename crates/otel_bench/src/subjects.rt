@@ -5,7 +5,7 @@ use crate::counted::counted_rounds;
 use opentelemetry_sdk::common::{Fault, KeyValue};
 use opentelemetry_sdk::metrics::callback::NoCallback;
 use opentelemetry_sdk::metrics::data::ResourceMetrics;
-use opentelemetry_sdk::metrics::meter::{Bound, Counter};
+use opentelemetry_sdk::metrics::meter::{Bound, Counter, Gauge, Histogram, Records, Synchronous};
 use opentelemetry_sdk::metrics::provider;
 use opentelemetry_sdk::metrics::provider::{Call, Provider};
 use opentelemetry_sdk::metrics::shared::{Account, Locked, Worker, WorkerSeries};
@@ -22,6 +22,12 @@ pub trait Subject: Drop {
     /// The counter `instrument` of the meter `meter`.
     fn counter(&mut self, alloc: Global) -> Result<Counter<u64>, Fault>;
 
+    /// The histogram `instrument` of the meter `meter`.
+    fn histogram(&mut self, alloc: Global) -> Result<Histogram<u64>, Fault>;
+
+    /// The gauge `instrument` of the meter `meter`.
+    fn gauge(&mut self, alloc: Global) -> Result<Gauge<u64>, Fault>;
+
     /// A handle of a counter with these attributes.
     fn handle(
         &mut self,
@@ -31,6 +37,13 @@ pub trait Subject: Drop {
 
     /// Adds 1 with these attributes. Returns whether that succeeded.
     fn add_one(&mut self, counter: &Counter<u64>, attributes: &[KeyValue]) -> bool;
+
+    /// Records 1 with these attributes. Returns whether that succeeded.
+    fn record_one<K: Records>(
+        &mut self,
+        instrument: &Synchronous<K, u64>,
+        attributes: &[KeyValue],
+    ) -> bool;
 
     /// Adds 1 through a handle. Returns whether that succeeded.
     fn add_one_through(&mut self, handle: &Bound<u64>) -> bool;
@@ -50,6 +63,18 @@ impl Subject for Provider<Plain> {
         meter.u64_counter(name).build(self, 100)
     }
 
+    fn histogram(&mut self, alloc: Global) -> Result<Histogram<u64>, Fault> {
+        let meter = self.meter("meter")?;
+        let name = String::from_str(alloc, "instrument")?;
+        meter.u64_histogram(name).build(self, 100)
+    }
+
+    fn gauge(&mut self, alloc: Global) -> Result<Gauge<u64>, Fault> {
+        let meter = self.meter("meter")?;
+        let name = String::from_str(alloc, "instrument")?;
+        meter.u64_gauge(name).build(self, 100)
+    }
+
     fn handle(
         &mut self,
         counter: &Counter<u64>,
@@ -61,6 +86,15 @@ impl Subject for Provider<Plain> {
     #[inline(always)]
     fn add_one(&mut self, counter: &Counter<u64>, attributes: &[KeyValue]) -> bool {
         counter.add(self, 1, attributes).is_ok()
+    }
+
+    #[inline(always)]
+    fn record_one<K: Records>(
+        &mut self,
+        instrument: &Synchronous<K, u64>,
+        attributes: &[KeyValue],
+    ) -> bool {
+        instrument.record(self, 1, attributes).is_ok()
     }
 
     #[inline(always)]
@@ -82,8 +116,11 @@ pub trait Recorder: Drop {
         attributes: &[KeyValue],
     ) -> Result<WorkerSeries<u64>, Fault>;
 
-    /// Adds a record of 1 with these attributes to the list.
+    /// Adds a record of 1 at a counter with these attributes to the list.
     fn add_one(&mut self, counter: &Counter<u64>, attributes: &[KeyValue]);
+
+    /// Adds a record of 1 at a histogram or a gauge with these attributes to the list.
+    fn record_one<K: Records>(&mut self, instrument: &Synchronous<K, u64>, attributes: &[KeyValue]);
 
     /// Adds a record of 1 of a series to the list.
     fn add_one_at(&mut self, series: WorkerSeries<u64>);
@@ -107,6 +144,15 @@ impl<C: Account, S: Account> Recorder for Worker<C, S> {
     #[inline(always)]
     fn add_one(&mut self, counter: &Counter<u64>, attributes: &[KeyValue]) {
         let _ = self.add_to(counter, 1, attributes);
+    }
+
+    #[inline(always)]
+    fn record_one<K: Records>(
+        &mut self,
+        instrument: &Synchronous<K, u64>,
+        attributes: &[KeyValue],
+    ) {
+        let _ = self.record_at(instrument, 1, attributes);
     }
 
     #[inline(always)]

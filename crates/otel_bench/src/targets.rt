@@ -1,47 +1,78 @@
-//! What is recorded at: a counter with attributes, or a handle.
+//! What is recorded at: an instrument with lists of attributes, or handles.
 
 use crate::subjects::Subject;
 use anyhow::{Error, bail};
-use opentelemetry_sdk::common::KeyValue;
-use opentelemetry_sdk::metrics::meter::{Bound, Counter};
+use opentelemetry_sdk::common::{Fault, KeyValue};
+use opentelemetry_sdk::metrics::meter::{Bound, Counter, Gauge, Histogram};
 use opentelemetry_sdk::metrics::provider::Call;
 use std::alloc::{AllocError, Global};
 
-/// A counter with attributes, which workers may look up or name once for a batch, or with lists that are all new; or a
-/// handle of it.
+/// A handle that stays live when it is let go.
+pub struct Handle {
+    pub bound: Bound<u64>,
+}
+
+impl Drop for Handle {
+    fn drop(self) {
+        let Handle { bound } = self;
+        let _ = bound.into_number();
+    }
+}
+
+/// What is recorded at, one record after another: an instrument with each of these lists of attributes, a counter with
+/// lists that are all new, or each of these handles. A worker looks the lists up, or names them once for `Series`.
+#[derive(Drop)]
 pub enum Target<'a> {
-    Set(Counter<u64>, &'a [KeyValue]),
-    Series(Counter<u64>, &'a [KeyValue]),
+    Sets(Counter<u64>, &'a [&'a [KeyValue]]),
+    Series(Counter<u64>, &'a [&'a [KeyValue]]),
+    Histogram(Histogram<u64>, &'a [&'a [KeyValue]]),
+    Gauge(Gauge<u64>, &'a [&'a [KeyValue]]),
     Lists(Counter<u64>),
-    Handle(Bound<u64>),
+    Handles(Vec<Handle>),
+}
+
+/// A target, and how many rounds over its lists or handles a batch of records is.
+#[derive(Drop)]
+pub struct Work<'a> {
+    pub target: Target<'a>,
+    pub rounds: u64,
+}
+
+/// Binds a handle of a counter for each of these lists of attributes.
+fn handles_of<S: Subject>(
+    alloc: Global,
+    subject: &mut S,
+    counter: &Counter<u64>,
+    lists: &[&[KeyValue]],
+) -> Result<Vec<Handle>, Fault> {
+    let mut handles = Vec::new(alloc);
+    for attributes in lists {
+        let bound = subject.handle(counter, attributes)?;
+        handles.push(Handle { bound })?;
+    }
+    Ok(handles)
 }
 
 impl<'a> Target<'a> {
-    /// Makes the target of calls that have this name: `add`, `series`, `lists` or `bound`.
+    /// Makes the target of calls that have this name: `add`, `series`, `histogram`, `gauge`, `lists` or `bound`.
     pub fn named<S: Subject>(
         alloc: Global,
         subject: &mut S,
         name: &str,
-        attributes: &'a [KeyValue],
+        lists: &'a [&'a [KeyValue]],
     ) -> Result<Target<'a>, Error> {
-        let counter = subject.counter(alloc)?;
         match name {
-            "add" => Ok(Target::Set(counter, attributes)),
-            "series" => Ok(Target::Series(counter, attributes)),
-            "lists" => Ok(Target::Lists(counter)),
-            "bound" => Ok(Target::Handle(subject.handle(&counter, attributes)?)),
-            _ => bail!("{name} is no call"),
-        }
-    }
-
-    /// Gives the target up. A handle stays live.
-    pub fn close(self) {
-        match self {
-            Target::Set(_counter, _attributes) | Target::Series(_counter, _attributes) => {}
-            Target::Lists(_counter) => {}
-            Target::Handle(handle) => {
-                let _ = handle.into_number();
+            "add" => Ok(Target::Sets(subject.counter(alloc)?, lists)),
+            "series" => Ok(Target::Series(subject.counter(alloc)?, lists)),
+            "histogram" => Ok(Target::Histogram(subject.histogram(alloc)?, lists)),
+            "gauge" => Ok(Target::Gauge(subject.gauge(alloc)?, lists)),
+            "lists" => Ok(Target::Lists(subject.counter(alloc)?)),
+            "bound" => {
+                let counter = subject.counter(alloc)?;
+                let handles = handles_of(alloc, subject, &counter, lists)?;
+                Ok(Target::Handles(handles))
             }
+            _ => bail!("{name} is no call"),
         }
     }
 }
@@ -55,12 +86,4 @@ pub fn lists_of<'a>(alloc: Global, calls: &'a [Call]) -> Result<Vec<&'a [KeyValu
         }
     }
     Ok(lists)
-}
-
-/// The attributes of the first of these calls, if it is a record.
-pub fn attributes_of(calls: &[Call]) -> &[KeyValue] {
-    match calls.first() {
-        Some(Call::Record { attributes, .. }) => attributes.as_slice(),
-        _ => &[],
-    }
 }

@@ -7,8 +7,8 @@ ghost use Rattle.opentelemetry_sdk.specs.Providers.{state_of};
 
 use crate::scripts::{calls_of, parts_of, provider_of};
 use crate::subjects::{Plain, Recorder, Shared, Subject};
-use crate::targets::{Target, attributes_of};
-use crate::workers::{BATCH, add_batch};
+use crate::targets::{Target, Work, lists_of};
+use crate::workers::{add_batch, names_of};
 use anyhow::Error;
 use opentelemetry_sdk::common::{Fault, KeyValue};
 use opentelemetry_sdk::metrics::provider::Provider;
@@ -35,13 +35,16 @@ fn hand_in_batches<W: Recorder, S: Shared<W>, R: Wait>(
     rt: &R,
     alloc: Global,
     shared: &Mutex<S>,
-    target: &Target<'_>,
+    work: &Work<'_>,
     batches: u64,
     worker: W,
 ) -> u64 {
     let mut worker = worker;
+    let Ok(names) = names_of(alloc, &mut worker, &work.target) else {
+        return 0;
+    };
     for batch in 0..batches {
-        let _ = add_batch(alloc, &mut worker, target, batch);
+        let _ = add_batch(alloc, &mut worker, work, names.as_slice(), batch);
         let _ = shared.lock(rt).hand_in(&mut worker);
     }
     worker.accepted()
@@ -75,7 +78,7 @@ fn record_by_workers<W: Recorder + Send, S: Shared<W> + Send, R: Threads + Wait 
     rt: &R,
     alloc: Global,
     shared: S,
-    target: &Target<'_>,
+    work: &Work<'_>,
     load: Load,
 ) -> Result<u64, Fault> {
     let mut shared = shared;
@@ -84,7 +87,7 @@ fn record_by_workers<W: Recorder + Send, S: Shared<W> + Send, R: Threads + Wait 
     match thread::map_vec(
         rt,
         workers,
-        &|worker| hand_in_batches(rt, alloc, &shared, target, load.batches, worker),
+        &|worker| hand_in_batches(rt, alloc, &shared, work, load.batches, worker),
     ) {
         Ok(counts) => Ok(sum_of(counts.as_slice())),
         Err(_) => Err(Fault::OutOfMemory),
@@ -96,7 +99,7 @@ fn by_ledgers<C: Account + Send + Sync, S: Account + Send + Sync, R: Threads + W
     rt: &R,
     alloc: Global,
     provider: Provider<Plain>,
-    target: &Target<'_>,
+    work: &Work<'_>,
     load: Load,
     records: Blank,
     values: Blank,
@@ -108,7 +111,7 @@ fn by_ledgers<C: Account + Send + Sync, S: Account + Send + Sync, R: Threads + W
         rt,
         alloc,
         Locked::<Plain, C, S>::new(provider, records, values),
-        target,
+        work,
         load,
     )
 }
@@ -118,38 +121,63 @@ fn by_workers<R: Threads + Wait + Sync>(
     rt: &R,
     alloc: Global,
     provider: Provider<Plain>,
-    target: &Target<'_>,
+    work: &Work<'_>,
     load: Load,
 ) -> Result<u64, Fault> {
     by_ledgers::<Brand, Brand, R>(
         rt,
         alloc,
         provider,
-        target,
+        work,
         load,
         Blank::new(MOST_WORKERS),
         Blank::new(MOST_WORKERS),
     )
 }
 
-/// What one thread does without a worker: it takes the lock for each record. Returns how many succeeded.
+/// One round without a worker: the lock is taken for each record. Returns how many succeeded.
+fn record_round<S: Subject, R: Wait>(rt: &R, shared: &Mutex<S>, target: &Target<'_>) -> u64 {
+    let mut made: u64 = 0;
+    match target {
+        Target::Sets(counter, lists) | Target::Series(counter, lists) => {
+            for attributes in lists.iter() {
+                let is_made = shared.lock(rt).add_one(counter, attributes);
+                made = made.saturating_add(u64::from(is_made));
+            }
+        }
+        Target::Histogram(histogram, lists) => {
+            for attributes in lists.iter() {
+                let is_made = shared.lock(rt).record_one(histogram, attributes);
+                made = made.saturating_add(u64::from(is_made));
+            }
+        }
+        Target::Gauge(gauge, lists) => {
+            for attributes in lists.iter() {
+                let is_made = shared.lock(rt).record_one(gauge, attributes);
+                made = made.saturating_add(u64::from(is_made));
+            }
+        }
+        Target::Lists(counter) => made = u64::from(shared.lock(rt).add_one(counter, &[])),
+        Target::Handles(handles) => {
+            for handle in handles.iter() {
+                let is_made = shared.lock(rt).add_one_through(&handle.bound);
+                made = made.saturating_add(u64::from(is_made));
+            }
+        }
+    }
+    made
+}
+
+/// What one thread does without a worker: as many rounds as its batches would have. Returns how many records succeeded.
 fn record_each<S: Subject, R: Wait>(
     rt: &R,
     shared: &Mutex<S>,
-    target: &Target<'_>,
-    records: u64,
+    work: &Work<'_>,
+    batches: u64,
 ) -> u64 {
     let mut made: u64 = 0;
-    for _ in 0..records {
-        let mut subject = shared.lock(rt);
-        let is_made = match target {
-            Target::Set(counter, attributes) | Target::Series(counter, attributes) => {
-                subject.add_one(counter, attributes)
-            }
-            Target::Lists(counter) => subject.add_one(counter, &[]),
-            Target::Handle(handle) => subject.add_one_through(handle),
-        };
-        made = made.saturating_add(u64::from(is_made));
+    for _ in 0..batches.saturating_mul(work.rounds) {
+        made = made.saturating_add(record_round(rt, shared, &work.target));
     }
     made
 }
@@ -159,7 +187,7 @@ fn by_lock<S: Subject + Send, R: Threads + Wait + Sync>(
     rt: &R,
     alloc: Global,
     subject: S,
-    target: &Target<'_>,
+    work: &Work<'_>,
     load: Load,
 ) -> Result<u64, Fault> {
     let shared = Mutex::new(subject);
@@ -167,7 +195,7 @@ fn by_lock<S: Subject + Send, R: Threads + Wait + Sync>(
         rt,
         alloc,
         load.threads,
-        &|_| record_each(rt, &shared, target, load.batches.saturating_mul(BATCH)),
+        &|_| record_each(rt, &shared, work, load.batches),
     ) {
         Ok(counts) => Ok(sum_of(counts.as_slice())),
         Err(_) => Err(Fault::OutOfMemory),
@@ -177,73 +205,90 @@ fn by_lock<S: Subject + Send, R: Threads + Wait + Sync>(
 /// The name of a way to record.
 fn way_of(target: &Target<'_>, has_workers: bool) -> &'static str {
     match target {
-        Target::Set(..) if has_workers => "worker",
         Target::Series(..) if has_workers => "worker_series",
-        Target::Set(..) | Target::Series(..) | Target::Lists(_) => "lock",
-        Target::Handle(_) if has_workers => "worker_bound",
-        Target::Handle(_) => "lock_bound",
+        Target::Handles(_) if has_workers => "worker_bound",
+        Target::Handles(_) => "lock_bound",
+        _ if has_workers => "worker",
+        _ => "lock",
     }
 }
 
-/// Prints the name of a way to record, how many threads recorded, and how many seconds that took.
+/// Prints the name of a way to record, how many threads recorded, how many records were accepted, and how many seconds
+/// that took.
 fn time_one<R: Print + Clock + Threads + Wait + Sync>(
     rt: &R,
     alloc: Global,
     provider: Provider<Plain>,
-    target: &Target<'_>,
+    work: &Work<'_>,
     load: Load,
     has_workers: bool,
 ) -> Result<(), Error> {
     let start = Instant::now(rt)?;
     let made = if has_workers {
-        by_workers(rt, alloc, provider, target, load)?
+        by_workers(rt, alloc, provider, work, load)?
     } else {
-        by_lock(rt, alloc, provider, target, load)?
+        by_lock(rt, alloc, provider, work, load)?
     };
     let seconds = start.elapsed(rt)?.as_secs_f64();
-    let way = way_of(target, has_workers);
+    let way = way_of(&work.target, has_workers);
     let threads = load.threads;
-    println!(rt; "{way} {threads} {made} {seconds:.3}")?;
+    println!(rt; "{way} {threads} {made} {seconds:.6}")?;
     Ok(())
 }
 
-/// Times records by calls of this name, at a new provider of this script.
+/// How records are made that are timed: in what batches, at what series of a provider of what script.
+#[derive(Drop)]
+struct Timed<'a> {
+    script: &'a str,
+    lists: &'a [&'a [KeyValue]],
+    rounds: u64,
+}
+
+/// Times records by calls of this name, at a new provider.
 fn time_way<R: Print + Clock + Threads + Wait + Sync>(
     rt: &R,
     alloc: Global,
-    script: &str,
-    attributes: &[KeyValue],
+    timed: &Timed<'_>,
     load: Load,
     name: &str,
     has_workers: bool,
 ) -> Result<(), Error> {
-    let mut provider = provider_of(alloc, script)?;
-    let target = Target::named(alloc, &mut provider, name, attributes)?;
-    let timed = time_one(rt, alloc, provider, &target, load, has_workers);
-    target.close();
-    timed
+    let mut provider = provider_of(alloc, timed.script)?;
+    let target = Target::named(alloc, &mut provider, name, timed.lists)?;
+    let work = Work {
+        target,
+        rounds: timed.rounds,
+    };
+    time_one(rt, alloc, provider, &work, load, has_workers)
 }
 
-/// Prints how many seconds 1, 2 and 4 threads take that make this many records each, in each way. The text is two
-/// scripts: what is done once, and the record.
+/// Prints how many seconds 1, 2 and 4 threads take that make this many records each, in each way, where a batch is this
+/// many rounds. The text is two scripts: what is done once, and the records of a round.
 pub fn time_threads<R: Print + Clock + Threads + Wait + Sync>(
     rt: &R,
     alloc: Global,
     scripts: &str,
     records: u64,
+    rounds: u64,
 ) -> Result<(), Error> {
-    let (script, record) = parts_of(scripts, "\n---\n")?;
-    let calls = calls_of(alloc, record)?;
-    let attributes = attributes_of(calls.as_slice());
-    let batches = records / BATCH;
+    let (script, round) = parts_of(scripts, "\n---\n")?;
+    let calls = calls_of(alloc, round)?;
+    let lists = lists_of(alloc, calls.as_slice())?;
+    let lists = lists.as_slice();
+    let batch = rounds.saturating_mul(lists.len() as u64);
+    let batches = records.checked_div(batch).unwrap_or(0);
+    let timed = Timed {
+        script,
+        lists,
+        rounds,
+    };
     for threads in [1, 2, 4] {
         let load = Load { threads, batches };
-        for name in ["add", "bound"] {
-            for has_workers in [false, true] {
-                time_way(rt, alloc, script, attributes, load, name, has_workers)?;
-            }
-        }
-        time_way(rt, alloc, script, attributes, load, "series", true)?;
+        time_way(rt, alloc, &timed, load, "add", false)?;
+        time_way(rt, alloc, &timed, load, "add", true)?;
+        time_way(rt, alloc, &timed, load, "series", true)?;
+        time_way(rt, alloc, &timed, load, "bound", false)?;
+        time_way(rt, alloc, &timed, load, "bound", true)?;
     }
     Ok(())
 }

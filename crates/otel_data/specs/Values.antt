@@ -1,5 +1,5 @@
 -- Values and counts of a collection, by scope, metric and attributes.
-use Rattle.std.specs.Prelude.{ℕ, ◌&&◌, Bool, false, List, Option, Some, None}
+use Rattle.std.specs.Prelude.{ℕ, ℤ, ◌&&◌, Bool, false, List, Option, Some, None}
 use Rattle.std.specs.List.{find, list_all, list_any}
 use Rattle.std.specs.Option.{option_and_then, option_map}
 use Rattle.otel_common.specs.Equality.{bytes_eq, key_value_eq}
@@ -12,6 +12,11 @@ use Rattle.otel_data.specs.declared.collections.Metric.{Metric}
 use Rattle.otel_data.specs.declared.collections.ResourceMetrics.{ResourceMetrics}
 use Rattle.otel_data.specs.declared.numbers.NumberValue.{NumberValue}
 use Rattle.otel_data.specs.declared.numbers.NumberValue.TheVariants.{U64, I64}
+
+-- the points by number type: those of `u64`, or else those of `i64`
+abbrev pub parts_of : AggregatedMetrics → Option (MetricData ℕ) × Option (MetricData ℤ)
+parts_of (numbers.U64 content) = (Some content, None)
+parts_of (numbers.I64 content) = (None, Some content)
 
 -- whether there is an attribute, this one
 abbrev pub is_this : KeyValue → Option KeyValue → Bool

@@ -1,6 +1,7 @@
 //! The points of one metric, of any aggregation and number type.
 
 ghost use Rattle.std.specs.Prelude.{◌≡◌};
+ghost use Rattle.otel_data.specs.Values.{parts_of};
 
 use crate::gauges::Gauge;
 use crate::histograms::Histogram;
@@ -73,6 +74,18 @@ impl Drop for AggregatedMetrics {
         match self {
             AggregatedMetrics::U64(_data) => {}
             AggregatedMetrics::I64(_data) => {}
+        }
+    }
+}
+
+impl AggregatedMetrics {
+    /// Consumes the points and returns them by their number type: those of `u64`, or else those of `i64`. Takes no memory.
+    pub fn into_parts(self) -> (Option<MetricData<u64>>, Option<MetricData<i64>>)
+        ensures { result ≡ parts_of self }
+    {
+        match self {
+            AggregatedMetrics::U64(data) => (Some(data), None),
+            AggregatedMetrics::I64(data) => (None, Some(data)),
         }
     }
 }

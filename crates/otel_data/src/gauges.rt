@@ -47,6 +47,18 @@ impl<T> Gauge<T> {
         }
     }
 
+    /// Consumes the gauge and returns its points, with `start_time` and `time`. Takes no memory.
+    pub fn into_parts(self) -> (Items<GaugeDataPoint<T>>, u64, u64)
+        ensures { result ≡ (self.data_points, self.start_time, self.time) }
+    {
+        let Gauge {
+            data_points,
+            start_time,
+            time,
+        } = self;
+        (data_points, start_time, time)
+    }
+
     /// The points, one for each set of attributes.
     pub fn data_points(&self) -> Iter<'_, GaugeDataPoint<T>>
         ensures { iter_rest result ≡ self.now.data_points }

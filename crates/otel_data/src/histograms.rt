@@ -61,6 +61,21 @@ impl<T> Histogram<T> {
         }
     }
 
+    /// Consumes the histogram and returns its points, with `start_time`, `time`, `temporality` and `has_sum`. Takes no
+    /// memory.
+    pub fn into_parts(self) -> (Items<HistogramDataPoint<T>>, u64, u64, Temporality, bool)
+        ensures { result ≡ (self.data_points, self.start_time, self.time, self.temporality, self.has_sum) }
+    {
+        let Histogram {
+            data_points,
+            start_time,
+            time,
+            temporality,
+            has_sum,
+        } = self;
+        (data_points, start_time, time, temporality, has_sum)
+    }
+
     /// The points, one for each set of attributes.
     pub fn data_points(&self) -> Iter<'_, HistogramDataPoint<T>>
         ensures { iter_rest result ≡ self.now.data_points }

@@ -41,6 +41,18 @@ impl<T> SumDataPoint<T> {
         }
     }
 
+    /// Consumes the point and returns its attributes, exemplars and value. Takes no memory.
+    pub fn into_parts(self) -> (SharedItems<KeyValue>, Items<Exemplar<T>>, T)
+        ensures { result ≡ (self.attributes, self.exemplars, self.value) }
+    {
+        let SumDataPoint {
+            attributes,
+            exemplars,
+            value,
+        } = self;
+        (attributes, exemplars, value)
+    }
+
     /// The attributes, each key once, in byte order of the keys.
     pub fn attributes(&self) -> Iter<'_, KeyValue>
         ensures { iter_rest result ≡ self.now.attributes }
@@ -94,6 +106,18 @@ impl<T> GaugeDataPoint<T> {
             exemplars,
             value,
         }
+    }
+
+    /// Consumes the point and returns its attributes, exemplars and value. Takes no memory.
+    pub fn into_parts(self) -> (SharedItems<KeyValue>, Items<Exemplar<T>>, T)
+        ensures { result ≡ (self.attributes, self.exemplars, self.value) }
+    {
+        let GaugeDataPoint {
+            attributes,
+            exemplars,
+            value,
+        } = self;
+        (attributes, exemplars, value)
     }
 
     /// The attributes, each key once, in byte order of the keys.
@@ -191,6 +215,32 @@ impl<T> HistogramDataPoint<T> {
             max,
             sum,
         }
+    }
+
+    /// Consumes the point and returns its attributes, exemplars, bounds and bucket counts. Takes no memory.
+    pub fn into_parts(
+        self,
+    ) -> (
+        SharedItems<KeyValue>,
+        Items<Exemplar<T>>,
+        SharedItems<i64>,
+        Items<u64>,
+    )
+    where
+        T: Drop,
+        ensures { result ≡ (self.attributes, self.exemplars, self.bounds, self.bucket_counts) }
+    {
+        let HistogramDataPoint {
+            attributes,
+            exemplars,
+            bounds,
+            bucket_counts,
+            count: _,
+            min: _min,
+            max: _max,
+            sum: _sum,
+        } = self;
+        (attributes, exemplars, bounds, bucket_counts)
     }
 
     /// The attributes, each key once, in byte order of the keys.

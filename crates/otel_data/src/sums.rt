@@ -60,6 +60,20 @@ impl<T> Sum<T> {
         }
     }
 
+    /// Consumes the sum and returns its points, with `start_time`, `time`, `temporality` and `is_monotonic`. Takes no memory.
+    pub fn into_parts(self) -> (Items<SumDataPoint<T>>, u64, u64, Temporality, bool)
+        ensures { result ≡ (self.data_points, self.start_time, self.time, self.temporality, self.is_monotonic) }
+    {
+        let Sum {
+            data_points,
+            start_time,
+            time,
+            temporality,
+            is_monotonic,
+        } = self;
+        (data_points, start_time, time, temporality, is_monotonic)
+    }
+
     /// The points, one for each set of attributes.
     pub fn data_points(&self) -> Iter<'_, SumDataPoint<T>>
         ensures { iter_rest result ≡ self.now.data_points }

@@ -1,5 +1,5 @@
 -- Which handles the streams of a lawful provider have.
-use Rattle.std.proofs.Common.{◌≡◌, ⊎_elim, ℕ, zero, suc, ◌<◌, true, false, List, [], ◌∷◌, length, refl, arith, sym, ◌∙◌, ap, Option, Some, None, subst, cond, Bool}
+use Rattle.std.proofs.Common.{◌≡◌, ⊎_elim, ℕ, zero, suc, ◌<◌, ◌≤◌, true, false, List, [], ◌∷◌, length, refl, arith, sym, ◌∙◌, ap, Option, Some, None, subst, cond, Bool}
 use Rattle.std.specs.Prelude.{◌==◌, slice_get, is_some}
 use Rattle.std.proofs.lemmas.Bool.{cases_Bool, true≢false}
 use Rattle.otel_model_stream.specs.Events.{held_by}
@@ -66,10 +66,15 @@ pub unfed-unheld : (s : Shared) (p : ReaderPart) (h n : ℕ) → HandlesAreSound
 unfed-unheld s p h n sound a e =
     unheld_each s.live s.instruments p h (λ q. is_fed p.feeds n q.demand.identity ≡ false) a (λ q f. held_when_fed p.feeds q.demand.identity h n s.live sound.distinct e ∙ f)
 
--- no stream has a handle of the next number
+-- no stream has a handle of a number that is none of the handles so far
+pub later-unheld : (s : Shared) (p : ReaderPart) (h : ℕ) → s.next ≤ h → HandlesAreSound s → PartIsLawful s.live s.instruments p → EachOf (λ (q : Stream). held_by h q.machine.live ≡ None) p.streams
+later-unheld s p h later sound a = each_weaker (λ (q : Stream). Unit {0} → held_by h q.machine.live ≡ None) (λ (q : Stream). held_by h q.machine.live ≡ None) p.streams (λ q f. f tt)
+    (unheld_each s.live s.instruments p h (λ q. Unit {0}) a (λ q t. absent_held p.feeds q.demand.identity h s.live
+    (absent_below h s.live (each_weaker (λ (x : LiveHandle). x.0 < s.next) (λ (x : LiveHandle). x.0 < h) s.live (λ x below. omega (arith, below, later)) sound.below))))
+
+-- in particular of the next one
 pub new-unheld : (s : Shared) (p : ReaderPart) → HandlesAreSound s → PartIsLawful s.live s.instruments p → EachOf (λ (q : Stream). held_by s.next q.machine.live ≡ None) p.streams
-new-unheld s p sound a = each_weaker (λ (q : Stream). Unit {0} → held_by s.next q.machine.live ≡ None) (λ (q : Stream). held_by s.next q.machine.live ≡ None) p.streams (λ q f. f tt)
-    (unheld_each s.live s.instruments p s.next (λ q. Unit {0}) a (λ q t. absent_held p.feeds q.demand.identity s.next s.live (absent_below s.next s.live sound.below)))
+new-unheld s p sound a = later-unheld s p s.next (omega arith) sound a
 
 -- a stream that an observable instrument feeds has no handles
 pub observable-unheld : (live : List LiveHandle) (is : List InstrumentState) (p : ReaderPart) (n : ℕ) (i : InstrumentState) → PartIsLawful live is p → slice_get is n ≡ Some i → is_observable i.kind ≡ true

@@ -24,3 +24,5 @@ pub mod Shows
 pub mod Totals
 pub mod Meters
 pub mod Given
+pub mod batches
+pub mod Temporary

@@ -21,3 +21,6 @@ pub mod Lawful
 pub mod Books
 pub mod Showing
 pub mod Given
+pub mod Places
+pub mod Batches
+pub mod Temporary

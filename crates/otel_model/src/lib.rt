@@ -2,12 +2,14 @@
 //! calls alone, and the laws that join the two. No working code.
 #![tactic(auto)]
 
+ghost use Rattle.otel_model.specs.Batches.{BatchesGroup, FirstsOfBeginning, RefusalsStay};
 ghost use Rattle.otel_model.specs.Books.{EachCallIsBooked, EachRunIsBooked};
 ghost use Rattle.otel_model.specs.Builds.{AlikeFeedTheSame};
 ghost use Rattle.otel_model.specs.Given.{AllIsGivenOrPending, EachGivesOrHolds};
 ghost use Rattle.otel_model.specs.Lawful.{EachCallKeepsLawful, EachRunKeepsLawful, HandlesAreOfFeeds, IsLawfulAtFirst, LawfulBalances, NextIsUnheld, ObservableIsUnheld};
 ghost use Rattle.otel_model.specs.Laws.{AreAnsweredFew, AreAnsweredTotals, AreCollectionsOfHistories, AreCountedOfHistories, AreFeedsApart, AreFeedsOfBuilds, AreFeedsStreams, ArePendingPoints, ArePlacesOfHistories, ArePointsFew, AreReadersKept, AreReadersKeptAtOnce, AreStreamsApart, AreStreamsOfBuilds, IsAccepted, IsAllAnswered, IsAllShown, IsAsOnlyReader, IsAsOnlyReaderFromAny, IsBalanceKept, IsConserved, IsExportedTotal, IsRecordedTotal};
 ghost use Rattle.otel_model.specs.Orders.{AreDifferences, BindsInAnyOrder, ObservationsInAnyOrder, RecordsInAnyOrder};
+ghost use Rattle.otel_model.specs.Places.{SeriesStayPlaced};
 ghost use Rattle.otel_model.specs.Resources.{GivenOneByOne, GivenValuesWin, MergesAreCanonical, OthersValuesWin, OwnValuesWin, UrlsMergeFromTheLeft, UrlsMergeFromTheRight};
 ghost use Rattle.otel_model.specs.Showing.{BindsByNumber, CollectsAfterObservations, HandlesByNumber, ObservationsByNumber, RecordsByNumber, UnheldRests};
 
@@ -128,4 +130,17 @@ pub fn numbers()
     ensures handles { HandlesByNumber }
     ensures observations { ObservationsByNumber }
     ensures collects { CollectsAfterObservations }
+{}
+
+/// Once there is a record of a series it has its places, for good, and each further one is a write alone.
+pub fn keeps_places()
+    ensures only { SeriesStayPlaced }
+{}
+
+/// Records can be made as a batch, series by series: their places in order of first records, then what is written in
+/// order of last records. A batch changes no record's fault, and the series of a beginning of it come first.
+pub fn groups()
+    ensures batches { BatchesGroup }
+    ensures refusals { RefusalsStay }
+    ensures beginnings { FirstsOfBeginning }
 {}

@@ -7,6 +7,7 @@ pub mod RowsEdges
 pub mod RowsChecks
 pub mod RowsCommon
 pub mod RowsResources
+pub mod RowsBatches
 pub mod RowsBooks
 pub mod RowsGiven
 pub mod RowsLawful

@@ -5,7 +5,7 @@ use Rattle.std.proofs.Common.{refl}
 use Rattle.otel_common.specs.declared.attributes.KeyValue.{KeyValue}
 use Rattle.otel_common.specs.declared.attributes.Value.TheVariants as value
 use Rattle.otel_common.specs.declared.metrics.Temporality.TheVariants.{Cumulative}
-use Rattle.otel_data.specs.Values.{is_this, is_first, has_key, is_set, value_in, count_in, number_in, any_count_in, metric_in, value_at, count_at}
+use Rattle.otel_data.specs.Values.{parts_of, is_this, is_first, has_key, is_set, value_in, count_in, number_in, any_count_in, metric_in, value_at, count_at}
 use Rattle.otel_data.specs.declared.aggregated.AggregatedMetrics.{AggregatedMetrics}
 use Rattle.otel_data.specs.declared.aggregated.AggregatedMetrics.TheVariants.{U64, I64}
 use Rattle.otel_data.specs.declared.aggregated.MetricData.{MetricData}
@@ -58,6 +58,9 @@ sum = points.Sum (record { data_points = point 5 (a1 ∷ []) ∷ point 7 (a1 ∷
 
 abbrev gauge : AggregatedMetrics
 gauge = I64 (points.Gauge (record { data_points = record { attributes = a1 ∷ b2 ∷ []; exemplars = []; value = negsuc 6 } ∷ []; start_time = 0; time = 1 }))
+
+pub number_types : (parts_of (U64 sum) ≡ (Some sum, None)) × (parts_of (I64 (points.Gauge (record { data_points = []; start_time = 2; time = 3 }))) ≡ (None, Some (points.Gauge (record { data_points = []; start_time = 2; time = 3 }))))
+number_types = (refl, refl)
 
 abbrev histogram : MetricData ℕ
 histogram = points.Histogram (record { data_points = record { attributes = a1 ∷ b2 ∷ []; exemplars = []; bounds = []; bucket_counts = []; count = 3; min = None; max = None; sum = 44 } ∷ []; start_time = 0; time = 1; temporality = Cumulative; has_sum = true })

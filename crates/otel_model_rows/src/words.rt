@@ -3,6 +3,7 @@
 ghost use Rattle.std.specs.Prelude.{◌≡◌, ℕ, true, List, [], ◌∷◌, ◌++◌, None, Some, codes};
 ghost use Rattle.otel_common.specs.declared.attributes.Value.TheVariants as value;
 ghost use Rattle.otel_model_stream.specs.Sets.{over_set};
+ghost use Rattle.otel_model.specs.Batches.{firsts};
 ghost use Rattle.otel_model.specs.Books.{added_among, bits_of};
 ghost use Rattle.otel_model.specs.Builds.{AreAlike};
 ghost use Rattle.otel_model.specs.Calls.{Counter, Bind, OutOfMemory, RecordBound, Reply, Unbind, UnknownReader, WrongKind};
@@ -76,6 +77,11 @@ pub fn resources()
 /// What instruments accepted, added up over calls.
 pub fn books()
     ensures through_handle { added_among bits_of (Bind 0 [] ∷ RecordBound 0 (u64 7) ∷ Unbind 0 ∷ []) (Reply.Handle 0 ∷ Reply.Done ∷ Reply.Done ∷ []) ≡ 7 }
+{}
+
+/// Records taken apart into places and what is written, and batches of records.
+pub fn batches()
+    ensures numbers_first_seen { firsts (1 ∷ 4 ∷ []) (3 ∷ 1 ∷ 3 ∷ 2 ∷ 4 ∷ 3 ∷ []) ≡ 3 ∷ 2 ∷ [] }
 {}
 
 /// What a reader was given, and what is pending.

@@ -1,5 +1,5 @@
 -- Numbers of which none occurs twice.
-use Rattle.std.proofs.Common.{◌≡◌, ℕ, zero, suc, ◌+◌, ◌<◌, ◌==◌, Bool, true, false, cond, ◌||◌, List, [], ◌∷◌, ◌++◌, map, Some, slice_get, refl, sym, ◌∙◌, ap, arith, eq-eqb, ne_eqb, true≢false}
+use Rattle.std.proofs.Common.{◌≡◌, ℕ, zero, suc, ◌+◌, ◌<◌, ◌==◌, Bool, true, false, cond, ◌||◌, List, [], ◌∷◌, ◌++◌, slice_get, refl, sym, ◌∙◌, ap, arith, eq-eqb, ne_eqb, true≢false}
 use Rattle.std.specs.List.{AllByRecursion}
 use Rattle.otel_model_stream.specs.Totals.{has_number}
 use Rattle.otel_model.specs.Calls.{or_else}
@@ -58,20 +58,3 @@ module _ {X : Type 0} (f : X → X) where
   pub fold-once : (ns : List ℕ) (xs : List X) → AreFedOnce ns → changed_each f ns xs ≡ changed_in ns f 0 xs
   fold-once [] xs once = sym (mapped-none 0 xs)
   fold-once (n ∷ ns) xs once = fold-once ns (changed_at n f xs) once.1 ∙ mapped-once ns n 0 n xs (omega arith) once.0
-
--- f and g, where they look the same at each element with one of these numbers
-module _ {X Y : Type 0} (v : X → Y) (f g : X → X) (ns : List ℕ) where
-  seen-in : (i : ℕ) (xs ys : List X) → ((j : ℕ) (x y : X) → slice_get xs j ≡ Some x → has_number (i + j) ns ≡ true → v x ≡ v y → v (f x) ≡ v (g y)) → map v xs ≡ map v ys → map v (changed_in ns f i xs) ≡ map v (changed_in ns g i ys)
-  seen-in i [] [] one e = refl
-  seen-in i [] (y ∷ ys) one e = absurd (cc)
-  seen-in i (x ∷ xs) [] one e = absurd (cc)
-  seen-in i (x ∷ xs) (y ∷ ys) one e =
-      let parts : (v x ≡ v y) × (map v xs ≡ map v ys) = (cc, cc) in
-      λ j. here (has_number i ns) refl parts.0 j ∷ seen-in (suc i) xs ys (λ k a b at h. one (suc k) a b at (ap (λ n. has_number n ns) (omega arith) ∙ h)) parts.1 j
-    where
-      here : (b : Bool) → has_number i ns ≡ b → v x ≡ v y → v (cond b (f x) x) ≡ v (cond b (g y) y)
-      here true h s = one zero x y refl (ap (λ n. has_number n ns) (omega arith) ∙ h) s
-      here false h s = s
-
-  pub seen-each : (xs ys : List X) → AreFedOnce ns → ((j : ℕ) (x y : X) → slice_get xs j ≡ Some x → has_number j ns ≡ true → v x ≡ v y → v (f x) ≡ v (g y)) → map v xs ≡ map v ys → map v (changed_each f ns xs) ≡ map v (changed_each g ns ys)
-  seen-each xs ys once one e = ap (map v) (fold-once f ns xs once) ∙ (seen-in 0 xs ys (λ j x y at h. one j x y at (ap (λ n. has_number n ns) (omega arith) ∙ h)) e ∙ ap (map v) (sym (fold-once g ns ys once)))

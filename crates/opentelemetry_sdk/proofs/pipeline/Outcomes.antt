@@ -1,7 +1,5 @@
 -- What holds where a call succeeds, and where it is refused.
-use Rattle.std.specs.Prelude.{◌≡◌, Result, Ok, Err, IfOk, OnOk, OnErr, true}
-use Rattle.std.specs.Result.{is_err}
-use Rattle.std.proofs.Common.{true≢false, sym}
+use Rattle.std.specs.Prelude.{Result, Ok, Err, IfOk, OnOk, OnErr}
 
 pub OnOk-weaker : {T E : Type 0} (r : Result T E) {P Q : Type 0} → (P → Q) → OnOk r P → OnOk r Q
 OnOk-weaker (Ok x) f p = f p
@@ -20,8 +18,3 @@ IfOk-both (Err e) f p q = p
 pub either : {T E : Type 0} (r : Result T E) {P Q R : Type 0} → (P → R) → (Q → R) → OnOk r P → OnErr r Q → R
 either (Ok x) f g p q = f p
 either (Err e) f g p q = g q
-
--- it was refused
-pub refused : {T E : Type 0} (r : Result T E) {P : Type 0} → is_err r ≡ true → OnErr r P → P
-refused (Ok x) e p = absurd (true≢false (sym e))
-refused (Err x) e p = p

@@ -1,15 +1,17 @@
--- How a collection takes observations in, and what is saved to undo that (Metrics SDK, "Observations inside
+-- How a collection takes observations in, and the drafts that it takes them into (Metrics SDK, "Observations inside
 -- asynchronous callbacks").
-use Rattle.std.specs.Prelude.{◌≡◌, ◌≤◌, ℕ, Bool, true, List, [], ◌∷◌, fold, length, All, Option, None, Some, slice_get}
+use Rattle.std.specs.Prelude.{◌≡◌, ℕ, Bool, true, false, List, [], ◌∷◌, fold, All, Option, None, Some, IfSome, slice_get}
+use Rattle.std.specs.Option.{option_map}
 use Rattle.otel_stream.specs.declared.observation.Observed.{Observed}
 use Rattle.otel_model_stream.specs.Entries.{Table}
 use Rattle.otel_aggregate.specs.Any.{Form, form_of, is_signed_value, amount_of}
 use Rattle.otel_model.specs.Calls as model
 use Rattle.otel_model.specs.Calls.{or_else, is_observable}
+use Rattle.otel_model.specs.Demands.{Demand}
 use Rattle.otel_model.specs.State.{ReaderPart}
 use Rattle.otel_model.specs.Streams.{aggregate_of}
 use Rattle.opentelemetry_sdk.specs.pipeline.Pipelines.{FeedsType, all_without_pending, changed_each}
-use Rattle.opentelemetry_sdk.specs.pipeline.Streams.{StreamContents, contents_after_record, without_pending}
+use Rattle.opentelemetry_sdk.specs.pipeline.Streams.{StreamContents, contents_after_record}
 
 -- an observation in the words of the model
 abbrev pub observed_of : Observed → model.Observed
@@ -32,66 +34,53 @@ observed_in feeds streams o = changed_each (contents_after_record o.value o.attr
 abbrev pub observed_all : List (List ℕ) → List Observed → List StreamContents → List StreamContents
 observed_all feeds os streams = fold (observed_in feeds) streams os
 
--- ======== undone ========
--- what is saved of a stream: its number type, the form of its entries, its entries, and the total of its records
-pub record SavedStreamContents : Type 0 where
+-- ======== drafts ========
+-- what a draft of a stream has: entries, their number type, the form of what they keep, and a total of records
+pub record Draft : Type 0 where
   pub is_signed : Bool
   pub form : Form
   pub table : Table
   pub recorded : ℕ
 
--- what is saved of this stream
-abbrev pub saved_by : StreamContents → SavedStreamContents
-saved_by h = record { is_signed = h.stream.demand.identity.signed; form = form_of (aggregate_of h.stream.demand); table = h.stream.machine.table; recorded = h.stream.recorded }
+-- a draft with what this stream has
+abbrev pub draft_of : StreamContents → Draft
+draft_of h = record { is_signed = h.stream.demand.identity.signed; form = form_of (aggregate_of h.stream.demand); table = h.stream.machine.table; recorded = h.stream.recorded }
 
--- what was saved before, or else this
-abbrev pub kept_or : Option SavedStreamContents → SavedStreamContents → Option SavedStreamContents
-kept_or None new = Some new
-kept_or (Some old) new = Some old
+-- the draft can change places with a stream of this demand: number type and form are the same, and the instrument is
+-- observable, so that no handle holds an entry
+pub record IsDraftOf (d : Draft) (demand : Demand) : Type 0 where
+  pub number : d.is_signed ≡ demand.identity.signed
+  pub form : d.form ≡ form_of (aggregate_of demand)
+  pub observable : is_observable demand.identity.kind ≡ true
 
--- what was saved can be put back into the stream: number type and form are the same, and the instrument is observable
-pub record IsSavedOf (saved : SavedStreamContents) (h : StreamContents) : Type 0 where
-  pub number : saved.is_signed ≡ h.stream.demand.identity.signed
-  pub form : saved.form ≡ form_of (aggregate_of h.stream.demand)
-  pub observable : is_observable h.stream.demand.identity.kind ≡ true
-
--- the stream with what was saved put back; what was prepared is given up
-abbrev pub contents_after_restore : SavedStreamContents → StreamContents → StreamContents
-contents_after_restore saved h = record {
+-- the stream with what its draft has in place of its own, if it has a draft; in any case nothing is prepared, and no
+-- room is made
+abbrev pub drafted : Option Draft → StreamContents → StreamContents
+drafted d h = record {
   stream = record {
     demand = h.stream.demand;
-    machine = record { table = saved.table; live = h.stream.machine.live };
+    machine = record { table = or_else (option_map (λ x. x.table) d) h.stream.machine.table; live = h.stream.machine.live };
     start = h.stream.start;
     reported = h.stream.reported;
-    recorded = saved.recorded;
+    recorded = or_else (option_map (λ x. x.recorded) d) h.stream.recorded;
     exported = h.stream.exported;
   };
   resets = h.resets;
   pending = None;
-  room = h.room;
+  room = false;
 }
 
--- the stream with what was saved put back, if anything was; in any case nothing is prepared, and no room is made
-abbrev pub restored_if : Option SavedStreamContents → StreamContents → StreamContents
-restored_if None h = without_pending h
-restored_if (Some saved) h = without_pending (contents_after_restore saved h)
-
 -- the same for each stream of a list
-abbrev pub restored_all : List (Option SavedStreamContents) → List StreamContents → List StreamContents
-restored_all [] hs = all_without_pending hs
-restored_all (s ∷ ss) [] = []
-restored_all (s ∷ ss) (h ∷ hs) = restored_if s h ∷ restored_all ss hs
+abbrev pub drafted_all : List (Option Draft) → List StreamContents → List StreamContents
+drafted_all [] hs = all_without_pending hs
+drafted_all (d ∷ ds) [] = []
+drafted_all (d ∷ ds) (h ∷ hs) = drafted d h ∷ drafted_all ds hs
 
--- what was saved can be put back into these streams
-abbrev pub AreSavedOf : List (Option SavedStreamContents) → List StreamContents → Type 0
-AreSavedOf [] hs = Unit {0}
-AreSavedOf (s ∷ ss) [] = Unit {0}
-AreSavedOf (None ∷ ss) (h ∷ hs) = AreSavedOf ss hs
-AreSavedOf (Some s ∷ ss) (h ∷ hs) = IsSavedOf s h × AreSavedOf ss hs
-
--- something was saved of the stream with this number
-abbrev pub IsSaved : List (Option SavedStreamContents) → ℕ → Type 0
-IsSaved ss n = (s : SavedStreamContents) × (slice_get ss n ≡ Some (Some s))
+-- the drafts can change places with these streams
+abbrev pub AreDraftsOf : List (Option Draft) → List StreamContents → Type 0
+AreDraftsOf [] hs = Unit {0}
+AreDraftsOf (d ∷ ds) [] = ⊥
+AreDraftsOf (d ∷ ds) (h ∷ hs) = IfSome d (λ x. IsDraftOf x h.stream.demand) × AreDraftsOf ds hs
 
 -- the stream with this number, if there is one, is of an observable instrument
 abbrev pub IsObservable : List StreamContents → ℕ → Type 0
@@ -104,11 +93,3 @@ AreObservable streams ns = All (IsObservable streams) ns
 -- the same of the streams that take these observations in
 abbrev pub AreObservableIn : List (List ℕ) → List Observed → List StreamContents → Type 0
 AreObservableIn feeds os streams = All (λ o. AreObservable streams (observing_numbers feeds o)) os
-
--- putting back what was saved changes nothing in these streams but what was prepared, and something was saved of each
--- that takes these observations in
-pub record CanUndo (feeds : List (List ℕ)) (os : List Observed) (streams : List StreamContents) (ss : List (Option SavedStreamContents)) : Type 0 where
-  pub many : length ss ≤ length streams
-  pub same : restored_all ss streams ≡ all_without_pending streams
-  pub kept : AreSavedOf ss streams
-  pub all : All (λ o. All (IsSaved ss) (observing_numbers feeds o)) os

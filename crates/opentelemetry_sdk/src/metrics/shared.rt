@@ -4,7 +4,9 @@
 
 pub mod account;
 mod adding;
+mod batch;
 mod booked;
+mod holdings;
 mod locked;
 mod pending;
 mod series;

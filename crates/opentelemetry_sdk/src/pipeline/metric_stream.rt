@@ -1,17 +1,18 @@
 //! One stream of one reader.
 
-ghost use Rattle.std.specs.Prelude.{◌≡◌, nat_lt, true, [], Some, IfOk, IsOk, OnOk, OnErr, IsOkUnless};
+ghost use Rattle.std.specs.Prelude.{◌≡◌, nat_lt, true, [], Some, IfOk, IfSome, IsOk, OnOk, OnErr, IsOkUnless};
+ghost use Rattle.std.specs.Option.{option_map};
 ghost use Rattle.otel_common.specs.Temporalities.{resets};
 ghost use Rattle.otel_model.specs.Calls.{is_observable};
 ghost use Rattle.otel_model.specs.Collections.{number_of_points};
 ghost use Rattle.otel_model.specs.Sent.{set_for};
 ghost use Rattle.opentelemetry_sdk.specs.pipeline.Known.{is_known_to};
 ghost use Rattle.opentelemetry_sdk.specs.pipeline.Handles.{IsReadyToBind};
-ghost use Rattle.opentelemetry_sdk.specs.pipeline.Observations.{IsSavedOf, contents_after_restore, saved_by};
+ghost use Rattle.opentelemetry_sdk.specs.pipeline.Observations.{IsDraftOf, draft_of, drafted};
 ghost use Rattle.opentelemetry_sdk.specs.pipeline.Streams.{IsAsked, IsMakeable, contents_of, new_contents, without_pending, contents_after_commit, contents_after_none, contents_after_record, contents_after_bind, contents_after_update, contents_after_unbind, contents_after_collection, shown_metric, if_points};
 
 use crate::pipeline::aggregations::{is_observable, settings_of};
-use crate::pipeline::saved::SavedStream;
+use crate::pipeline::draft::StreamDraft;
 use otel_aggregate::aggregate_stream::AggregateStream;
 use otel_aggregate::value_map::hashed_key::GivenAttributes;
 use otel_aggregate::value_map::hashing::SetHashBuilder;
@@ -23,8 +24,10 @@ use otel_data::aggregated::{AggregatedMetrics, MetricData};
 use otel_data::collections::Metric;
 use otel_data::numbers::NumberValue;
 use otel_stream::demand::Demand;
+use otel_stream::observation::Observed;
 use std::alloc::{AllocError, Global};
 use std::marker::Model;
+use std::mem::swap;
 
 /// A stream: what was demanded, and the records so far.
 pub(crate) struct MetricStream {
@@ -233,34 +236,61 @@ impl MetricStream {
         self.aggregate.finish(now);
     }
 
-    /// Saves the entries and the total of the records of an observable instrument's stream.
-    ///
-    /// Copies the entries, and shares their sets.
-    pub(crate) fn save(&self, alloc: Global) -> Result<SavedStream, Fault>
-        requires { is_observable self.now.stream.demand.identity.kind ≡ true }
-        ensures saved { IfOk result (λ saved. saved ≡ saved_by self.now) }
-        ensures only_memory { IsOkUnless result Fault.OutOfMemory }
+    /// Exchanges the entries and the total of the records with those of its draft, if there is one. Takes no memory.
+    pub(crate) fn exchange(&mut self, draft: &mut Option<StreamDraft>)
+        requires { IfSome draft.old (λ d. IsDraftOf d self.old.stream.demand) }
+        ensures stream { without_pending self.new ≡ drafted draft.old self.old }
+        ensures draft { draft.new ≡ option_map (λ _. draft_of self.old) draft.old }
     {
-        // Tells the prover that no entry is held.
-        self.aggregate.law_of_handles();
-        let aggregate = self.aggregate.save(alloc)?;
-        Ok(SavedStream {
-            aggregate,
-            recorded: self.recorded,
-        })
+        if let Some(draft) = draft {
+            self.aggregate.exchange(&mut draft.aggregate);
+            swap(&mut self.recorded, &mut draft.recorded);
+        }
     }
 
-    /// Puts back what was saved of it. Takes no memory.
-    pub(crate) fn restore(&mut self, saved: SavedStream)
-        requires { IsSavedOf saved self.old }
-        ensures { self.new ≡ contents_after_restore saved self.old }
+    /// Exchanges an observable instrument's stream with its draft, or makes the draft if there is none yet.
+    ///
+    /// A new draft gets copies of the entries, which share their sets. The stream goes on with the entries themselves,
+    /// and the memory that they have for more.
+    fn enter_draft(&mut self, alloc: Global, draft: &mut Option<StreamDraft>) -> Result<(), Fault>
+        requires observable { is_observable self.old.stream.demand.identity.kind ≡ true }
+        requires fits { IfSome draft.old (λ d. IsDraftOf d self.old.stream.demand) }
+        ensures stream { without_pending self.new ≡ drafted draft.old self.old }
+        ensures draft { OnOk result (draft.new ≡ Some (draft_of self.old)) }
+        ensures refused { OnErr result (without_pending self.new ≡ without_pending self.old) }
+        ensures only_memory { IsOkUnless result Fault.OutOfMemory }
     {
-        let SavedStream {
+        if draft.is_some() {
+            self.exchange(draft);
+            return Ok(());
+        }
+        let aggregate = self.aggregate.draft(alloc)?;
+        *draft = Some(StreamDraft {
             aggregate,
-            recorded,
-        } = saved;
-        self.aggregate.restore(aggregate);
-        self.recorded = recorded;
+            recorded: self.recorded,
+        });
+        Ok(())
+    }
+
+    /// Takes an observation into the stream's draft, as a record, and makes the draft if there is none yet.
+    pub(crate) fn observe(
+        &mut self,
+        alloc: Global,
+        draft: &mut Option<StreamDraft>,
+        observation: &Observed,
+    ) -> Result<(), Fault>
+        requires observable { is_observable self.old.stream.demand.identity.kind ≡ true }
+        requires fits { IfSome draft.old (λ d. IsDraftOf d self.old.stream.demand) }
+        ensures same { without_pending self.new ≡ without_pending self.old }
+        ensures fits { OnOk result (IfSome draft.new (λ d. IsDraftOf d self.new.stream.demand)) }
+        ensures observed { OnOk result (drafted draft.new self.new ≡ contents_after_record observation.now.value observation.now.attributes (drafted draft.old self.old)) }
+        ensures only_memory { IsOkUnless result Fault.OutOfMemory }
+    {
+        self.enter_draft(alloc, draft)?;
+        let observed = self.record(observation.value, observation.attributes.as_slice());
+        self.exchange(draft);
+        observed?;
+        Ok(())
     }
 
     /// What a collection at the moment `now`, in nanoseconds since 1970, gives for the stream, or `None` if it has no

@@ -69,11 +69,3 @@ pub record IsNumberOf (s : AttributeSet) (n : ℕ) (ns : Numbers) : Type 0 where
   pub some : set_eq s none_set ≡ false
   pub number : lookup (set_eq s) ns.sets ≡ Some n
   pub named : set_named n ns ≡ s
-
--- an entry, without its live handles
-abbrev pub entry_without_handles : Entry → Entry
-entry_without_handles e = record e { handles = 0 }
-
--- a table, without its live handles
-abbrev pub without_handles : Table → Table
-without_handles t = record { none = entry_without_handles t.none; entries = map entry_without_handles t.entries }

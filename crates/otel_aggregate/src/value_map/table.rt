@@ -14,7 +14,7 @@ ghost use Rattle.otel_model_stream.specs.Totals.{points_total};
 ghost use Rattle.otel_model_stream.specs.Entries.{point_of_entry, new_entry, has, write, take_handle, drop_handle, at_entry, new_table, evicted_table, drained_table, points, number_counted};
 ghost use Rattle.std.specs.List.{AllByRecursion, IsDistinct};
 ghost use Rattle.otel_aggregate.specs.value_map.Keyed.{Fits, found, IsNew, IsSpelling, with_spelling};
-ghost use Rattle.otel_aggregate.specs.value_map.Numbers.{number_of, handles_at, entry_without_handles, without_handles, AreNamed, AreNumbered, KeepLeft, IsNumberOf, is_number};
+ghost use Rattle.otel_aggregate.specs.value_map.Numbers.{number_of, handles_at, AreNamed, AreNumbered, KeepLeft, IsNumberOf, is_number};
 ghost use Rattle.otel_aggregate.specs.value_map.Slots.{HasForm, Look, SameLook, look_in, kept_of, changed_each, left_of, entry_of, entry_at, number_updated};
 
 use crate::aggregators::aggregator::Aggregator;
@@ -246,9 +246,9 @@ fn aggregator_in<A: Aggregator>(slots: &Slab<Slot<A>>, number: usize) -> Option<
     Some(&slot.aggregator)
 }
 
-/// A copy of a slot, held by no handle.
+/// A copy of a slot.
 fn copy_slot<A: Aggregator>(alloc: Global, slot: &Slot<A>) -> Result<Slot<A>, Fault>
-    ensures copy { IfOk result (λ made. kept_of A.meaning made ≡ record (kept_of A.meaning slot.now) { handles = 0 }) }
+    ensures copy { IfOk result (λ made. kept_of A.meaning made ≡ kept_of A.meaning slot.now) }
     ensures only_memory { IsOkUnless result Fault.OutOfMemory }
 {
     Ok(Slot {
@@ -256,7 +256,7 @@ fn copy_slot<A: Aggregator>(alloc: Global, slot: &Slot<A>) -> Result<Slot<A>, Fa
         counted: slot.counted,
         updated: slot.updated,
         lasting: slot.lasting,
-        handles: 0,
+        handles: slot.handles,
     })
 }
 
@@ -514,10 +514,9 @@ impl<A: Aggregator> Table<A> {
         aggregator_in(&self.slots, number)
     }
 
-    /// A copy of the entries, held by no handle, which shares their sets. It doesn't know lists that admitted a set in
-    /// another form.
+    /// A copy of the entries, which shares their sets. It doesn't know lists that admitted a set in another form.
     pub fn copy(&self, alloc: Global) -> Result<Table<A>, Fault>
-        ensures table { IfOk result (λ made. made.table ≡ without_handles self.now.table) }
+        ensures table { IfOk result (λ made. made.table ≡ self.now.table) }
         ensures only_memory { IsOkUnless result Fault.OutOfMemory }
     {
         let none = self.slots.get(self.none).unwrap();
@@ -527,7 +526,7 @@ impl<A: Aggregator> Table<A> {
     }
 }
 
-/// Adds copies of the entries of these sets, held by no handle, to a table that has none. It shares the sets.
+/// Adds copies of the entries of these sets to a table that has none. It shares the sets.
 fn copy_entries<A: Aggregator>(
     alloc: Global,
     slots: &Slab<Slot<A>>,
@@ -538,7 +537,7 @@ fn copy_entries<A: Aggregator>(
     requires unique { IsDistinct set_eq (keys_of keys.now.sets) }
     requires first { made.old.numbers.sets ≡ [] }
     requires empty { made.old.table.entries ≡ [] }
-    ensures table { OnOk result (made.new.table ≡ record made.old.table { entries = map entry_without_handles (map (entry_at (look_in A.meaning slots.now)) keys.now.sets) }) }
+    ensures table { OnOk result (made.new.table ≡ record made.old.table { entries = map (entry_at (look_in A.meaning slots.now)) keys.now.sets }) }
     ensures only_memory { IsOkUnless result Fault.OutOfMemory }
 {
     for (set, number) in keys.sets() {

@@ -4,6 +4,7 @@ use metrics_script::script::script;
 use std::alloc::Global;
 use std::process::Abort;
 
+mod batches;
 mod collected;
 mod commands;
 mod explained;
@@ -25,6 +26,7 @@ mod vectors;
 mod views;
 mod words;
 
+use batches::assert_prints_by_worker;
 use collected::assert_is_full;
 
 /// What the program wrote, and the status that it returned.
@@ -67,12 +69,13 @@ fn assert_outcome(
     assert_eq!(rt; outcome.status, status, "{name}");
 }
 
-/// Asserts that the program runs this script and prints these lines, and that no collection has a scope without metrics
-/// or a metric without points.
+/// Asserts that the program runs this script and prints these lines, as it would if a worker handed in the records, and
+/// that no collection has a scope without metrics or a metric without points.
 fn assert_prints(rt: &impl Abort, alloc: Global, name: &str, script: &str, lines: &str) {
     let outcome = outcome_of(alloc, script.as_bytes());
     assert_outcome(rt, name, &outcome, 0, lines, "");
     assert_is_full(rt, alloc, name, script);
+    assert_prints_by_worker(rt, alloc, name, script, lines);
 }
 
 /// A script, and the lines that it prints. A failure gives the name.

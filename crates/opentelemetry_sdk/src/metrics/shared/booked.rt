@@ -1,6 +1,6 @@
 //! The core of a shared provider, with its book.
 
-ghost use Rattle.std.specs.Prelude.{◌≡◌, ◌≤◌, ◌<◌, ◌+◌, ◌-◌, ◌%◌, ◌^◌, ◌==◌, ◌∷◌, true, false, if◌then◌else◌, [], map, sum_by, vec_len, is_ok, length, None, Some, Err, IfOk, IfErr, OnOk, OnErr};
+ghost use Rattle.std.specs.Prelude.{◌≡◌, ◌≤◌, ◌<◌, ◌+◌, ◌-◌, ◌%◌, ◌^◌, ◌==◌, ◌∷◌, true, false, if◌then◌else◌, [], map, sum_by, vec_len, is_ok, length, take, drop, None, Some, Err, IfOk, IfErr, OnOk, OnErr};
 ghost use Rattle.opentelemetry_sdk.specs.Checks.{collect_refusal};
 ghost use Rattle.opentelemetry_sdk.specs.Correspondence.{call_of, fault_of, observed_of, reply_of, reply_from};
 ghost use Rattle.opentelemetry_sdk.specs.Known.{IsKnown};
@@ -106,6 +106,48 @@ fn make(core: &mut Core, pending: LentRecord<'_>) -> Result<(), Fault>
     ensures known { IsKnown core.old.state (call_in (lent_record pending.entry)) → IfErr result IsNamed }
 {
     answer_to(core, pending)
+}
+
+/// Enters a record of a worker that is made, by the 64 bits of its value.
+fn enter<C: Account, S: Account>(
+    records: &mut Book<C>,
+    values: &mut Book<S>,
+    worker: &mut Worker<C, S>,
+    value: u64,
+)
+    requires room { records.old.total < 2 ^ 64 - 1 }
+    ensures book { (records.new.total ≡ records.old.total + 1) × (values.new.total ≡ values.old.total + value) }
+    ensures share { (records_of worker.new ≡ records_of worker.old + 1) × (values_of worker.new ≡ values_of worker.old + value) }
+    ensures kept { (waits_of worker.new ≡ waits_of worker.old) × (worker_identity worker.new ≡ worker_identity worker.old) }
+{
+    // (the share is at most the book, so it has room for one more)
+    records.audit(&mut worker.records);
+    records.add(&mut worker.records, 1);
+    values.add(&mut worker.values, value);
+    worker.submitted += 1;
+}
+
+/// Enters the first records that wait at a worker, which are made, and lets them go.
+fn enter_each<C: Account, S: Account>(
+    records: &mut Book<C>,
+    values: &mut Book<S>,
+    worker: &mut Worker<C, S>,
+    made: usize,
+)
+    requires there { made ≤ length (pending_of worker.old) }
+    requires room { records.old.total + made < 2 ^ 64 }
+    ensures pending { pending_of worker.new ≡ drop made (pending_of worker.old) }
+    ensures book { (records.new.total ≡ records.old.total + made) × (values.new.total ≡ values.old.total + sum_by bits_in (take made (pending_of worker.old))) }
+    ensures share { (records_of worker.new ≡ records_of worker.old + made) × (values_of worker.new ≡ values_of worker.old + sum_by bits_in (take made (pending_of worker.old))) }
+    ensures kept { worker_identity worker.new ≡ worker_identity worker.old }
+    ensures series { StaysListed (waits_of worker.old) (waits_of worker.new) }
+{
+    for _ in 0..made {
+        let waiting = &mut worker.waiting;
+        let value = waiting.first().unwrap().bits();
+        waiting.pass_first();
+        enter(records, values, worker, value);
+    }
 }
 
 /// Whether a call is a record.
@@ -239,11 +281,28 @@ impl<C: Account, S: Account> Booked<C, S> {
         ensures kept { (self.new.opened ≡ self.old.opened) × (worker_identity worker.new ≡ worker_identity worker.old) }
         ensures series { StaysListed (waits_of worker.old) (waits_of worker.new) }
     {
+        self.make_waiting(worker);
         while self.make_first(worker)? {}
         self.records.audit(&mut worker.records);
         Ok(Receipt {
             accepted: self.accepted,
         })
+    }
+
+    /// Makes the first records of a worker that are of series, up to one that is refused. May leave any of them.
+    fn make_waiting(&mut self, worker: &mut Worker<C, S>)
+        ensures grew { (records_of worker.old ≤ records_of worker.new) × (values_of worker.old ≤ values_of worker.new) }
+        ensures made { Submits self.old.core.state (pending_of worker.old) self.new.core.state (pending_of worker.new) (records_of worker.new - records_of worker.old) (values_of worker.new - values_of worker.old) }
+        ensures book { (self.new.records.total + records_of worker.old ≡ self.old.records.total + records_of worker.new) × (self.new.values.total + values_of worker.old ≡ self.old.values.total + values_of worker.new) }
+        ensures seeded { self.new.core.hash_seed ≡ self.old.core.hash_seed }
+        ensures kept { (self.new.opened ≡ self.old.opened) × (worker_identity worker.new ≡ worker_identity worker.old) }
+        ensures series { StaysListed (waits_of worker.old) (waits_of worker.new) }
+    {
+        let room = u64::MAX - self.accepted;
+        let most = worker.waiting.len().min(room as usize);
+        let made = self.core.record_waiting(&worker.waiting, most);
+        enter_each(&mut self.records, &mut self.values, worker, made);
+        self.accepted += made as u64;
     }
 
     /// Makes the first record of a worker, if there is one, and answers whether there was.
@@ -268,12 +327,8 @@ impl<C: Account, S: Account> Booked<C, S> {
         }
         let value = first.bits();
         worker.waiting.pass_first();
-        // (the share is at most the book, so it has room for one more)
-        self.records.audit(&mut worker.records);
-        self.records.add(&mut worker.records, 1);
-        self.values.add(&mut worker.values, value);
+        enter(&mut self.records, &mut self.values, worker, value);
         self.accepted += 1;
-        worker.submitted += 1;
         Ok(true)
     }
 
@@ -286,6 +341,7 @@ impl<C: Account, S: Account> Booked<C, S> {
     ) -> Result<(), Fault>
         ensures done { OnOk result ((pending_of worker.old ≡ []) × IsDone self.old.core.state (call_in (lent_record made.entry)) self.new.core.state × (records_of worker.new ≡ records_of worker.old + 1) × (values_of worker.new ≡ values_of worker.old + bits_in (lent_record made.entry))) }
         ensures waits { 0 < length (pending_of worker.old) → result ≡ Err Fault.UseWorker }
+        ensures known { IfErr result (λ f. IsKnown self.old.core.state (call_in (lent_record made.entry)) → IsNamed f) }
         ensures fault { IfErr result (λ f. pending_of worker.old ≡ [] → StopsBy self.new.core.state (lent_record made.entry ∷ []) self.new.records.total f) }
         ensures refused { OnErr result ((self.new.core.state ≡ self.old.core.state) × (records_of worker.new ≡ records_of worker.old) × (values_of worker.new ≡ values_of worker.old)) }
         ensures seeded { self.new.core.hash_seed ≡ self.old.core.hash_seed }
@@ -300,13 +356,8 @@ impl<C: Account, S: Account> Booked<C, S> {
         if let Err(fault) = make(&mut self.core, made) {
             return Err(fault);
         }
-        let value = made.bits();
-        // (the share is at most the book, so it has room for one more)
-        self.records.audit(&mut worker.records);
-        self.records.add(&mut worker.records, 1);
-        self.values.add(&mut worker.values, value);
+        enter(&mut self.records, &mut self.values, worker, made.bits());
         self.accepted += 1;
-        worker.submitted += 1;
         Ok(())
     }
 

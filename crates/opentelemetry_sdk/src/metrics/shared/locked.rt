@@ -7,6 +7,7 @@ ghost use Rattle.otel_common.specs.declared.faults.Fault.{Fault};
 ghost use Rattle.opentelemetry_sdk.specs.Checks.{collect_refusal};
 ghost use Rattle.opentelemetry_sdk.specs.Correspondence.{call_of, reply_of};
 ghost use Rattle.opentelemetry_sdk.specs.Readers.{StepReaches};
+ghost use Rattle.opentelemetry_sdk.specs.Known.{IsKnown};
 ghost use Rattle.opentelemetry_sdk.specs.States.{IsNamed};
 ghost use Rattle.otel_model.specs.Calls as model;
 ghost use Rattle.otel_model.specs.Laws.{KeepsReaders};
@@ -233,6 +234,7 @@ impl<P: Parts, C: Account, S: Account> Locked<P, C, S> {
         ensures waits { instrument_identity instrument.now ≡ worker_identity worker.old → 0 < length (pending_of worker.old) → result ≡ Err Fault.UseWorker }
         ensures done { OnOk result ((pending_of worker.old ≡ []) × IsDone (state_in self.old) (call_in (PendingRecord.Plain (instrument_number instrument.now) (T.value value) attributes.now)) (state_in self.new) × (records_of worker.new ≡ records_of worker.old + 1) × (values_of worker.new ≡ values_of worker.old + bits_in (PendingRecord.Plain (instrument_number instrument.now) (T.value value) attributes.now))) }
         ensures fault { instrument_identity instrument.now ≡ worker_identity worker.old → IfErr result (λ f. pending_of worker.old ≡ [] → StopsBy (state_in self.new) ((PendingRecord.Plain (instrument_number instrument.now) (T.value value) attributes.now) ∷ []) (records_in self.new) f) }
+        ensures known { IfErr result (λ f. IsKnown (state_in self.old) (call_in (PendingRecord.Plain (instrument_number instrument.now) (T.value value) attributes.now)) → IsNamed f) }
         ensures refused { OnErr result ((state_in self.new ≡ state_in self.old) × (records_of worker.new ≡ records_of worker.old) × (values_of worker.new ≡ values_of worker.old)) }
         ensures book { (records_in self.new + records_of worker.old ≡ records_in self.old + records_of worker.new) × (values_in self.new + values_of worker.old ≡ values_in self.old + values_of worker.new) }
         ensures balances { Balances (state_in self.new) }

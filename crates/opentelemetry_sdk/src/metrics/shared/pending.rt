@@ -82,3 +82,12 @@ pub(crate) enum WaitingRecord {
     /// A value for the handle of this number.
     Bound { handle: u64, value: NumberValue },
 }
+
+/// A record of a series that waits: where the series stands among those that its worker knows, and what makes the record.
+#[derive(Clone, Copy)]
+pub(crate) struct ListedRecord<'a> {
+    pub(crate) place: usize,
+    pub(crate) instrument: usize,
+    pub(crate) attributes: &'a [KeyValue],
+    pub(crate) value: NumberValue,
+}

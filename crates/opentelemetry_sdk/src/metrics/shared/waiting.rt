@@ -4,7 +4,7 @@ ghost use Rattle.std.specs.Prelude.{◌≡◌, ◌≤◌, ◌<◌, ◌+◌, ◌+
 ghost use Rattle.opentelemetry_sdk.specs.Series.{series, series_eq};
 ghost use Rattle.opentelemetry_sdk.specs.Waiting.{HasSeries, KeepsSeries, lent_record, record_in, record_at, series_placed};
 
-use crate::metrics::shared::pending::{LentRecord, PendingRecord, WaitingRecord};
+use crate::metrics::shared::pending::{LentRecord, ListedRecord, PendingRecord, WaitingRecord};
 use crate::metrics::shared::series_table::SeriesTable;
 use otel_aggregate::value_map::hashing::SetHashBuilder;
 use otel_common::attributes::KeyValue;
@@ -126,6 +126,40 @@ impl Waiting {
             return None;
         };
         lent(&self.table, *first)
+    }
+
+    /// How many series there are.
+    pub(crate) fn count_series(&self) -> usize
+        ensures { result ≡ length self.now.series }
+    {
+        self.table.len()
+    }
+
+    /// The record with this number among those that wait, if there is one and it is of a series.
+    #[inline(always)]
+    pub(crate) fn listed(&self, number: usize) -> Option<ListedRecord<'_>>
+        ensures there { IfSome result (λ r. (r.place < length self.now.series) × (get_or self.now.series r.place (series 0 []) ≡ series r.instrument r.attributes.now)) }
+        ensures record { IfSome result (λ r. slice_get self.now.records number ≡ Some (PendingRecord.Plain r.instrument r.value r.attributes.now)) }
+    {
+        let number = self.made.checked_add(number)?;
+        let WaitingRecord::Plain { place, value } = *self.records.get(number)? else {
+            return None;
+        };
+        let series = self.table.at(place)?;
+        Some(ListedRecord {
+            place,
+            instrument: series.instrument,
+            attributes: series.attributes.as_slice(),
+            value,
+        })
+    }
+
+    /// The instrument of the series at this place.
+    pub(crate) fn instrument(&self, place: usize) -> usize
+        requires { place < length self.now.series }
+        ensures { result ≡ (get_or self.now.series place (series 0 [])).instrument }
+    {
+        self.table.at(place).unwrap().instrument
     }
 
     /// Lets the first record that waits go.

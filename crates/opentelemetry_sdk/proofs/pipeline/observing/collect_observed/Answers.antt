@@ -1,17 +1,17 @@
-use Rattle.std.proofs.Common.{◌∙◌, sym, ap, arith, length}
-use Rattle.opentelemetry_sdk.specs.pipeline.Pipelines.{fates_of}
-use Rattle.opentelemetry_sdk.specs.pipeline.Streams.{StreamContents}
-use Rattle.opentelemetry_sdk.proofs.pipeline.Outcomes.{refused}
-use Rattle.opentelemetry_sdk.proofs.pipeline.Undone.{kept-same}
-use Rattle.opentelemetry_sdk.proofs.pipeline.Writes.{length-seen}
+use Rattle.std.proofs.Common.{◌∙◌, ap}
+use Rattle.opentelemetry_sdk.specs.pipeline.Collections.{scopes_shown}
+use Rattle.opentelemetry_sdk.specs.pipeline.Observations.{observed_all}
+use Rattle.opentelemetry_sdk.proofs.pipeline.Collects.{finished-settled, shown-settled}
 use Rattle.opentelemetry_sdk.proofs.pipeline.observing.collect_observed.Goals as goal
 
-pub restore_each-requires-clause-many : goal.restore_each-requires-clause-many
-restore_each-requires-clause-many c =
-    let same = refused c.observe_and_collect-collected.result (sym c.is_err.ensures.value ∙ c.if-is_err.true) c.observe_and_collect-collected.ensures.demands in
-    omega (arith, c.in_ok-saved.ensures.saved.many, ap length c.deref.ensures.value, length-seen (λ (k : StreamContents). k.stream.demand) c.observe_and_collect-collected.new.streams.items c.args.streams.now.items same)
+pub returns-in-Ok-clause-scopes : goal.returns-in-Ok-clause-scopes
+returns-in-Ok-clause-scopes c =
+    ap (λ z. z.scope_metrics) c.new.ensures
+    ∙ c.in-Ok.ensures.scopes
+    ∙ ap (λ ks. scopes_shown c.args.now ks c.args.meters.now.keys) c.deref.ensures.value
+    ∙ shown-settled c.args.now c.args.meters.now.keys c.exchange_each.new.streams.items (observed_all c.args.feeds.now c.args.observations.now c.args.streams.now.items) (c.exchange_each.ensures.drafted ∙ c.in_ok-drafts.ensures.observed)
 
-pub restore_each-requires-clause-kept : goal.restore_each-requires-clause-kept
-restore_each-requires-clause-kept c =
-    let same = refused c.observe_and_collect-collected.result (sym c.is_err.ensures.value ∙ c.if-is_err.true) c.observe_and_collect-collected.ensures.demands in
-    kept-same c.in_ok-saved.saved.items c.deref.result.now c.observe_and_collect-collected.new.streams.items (ap fates_of c.deref.ensures.value ∙ sym same) c.in_ok-saved.ensures.saved.kept
+pub returns-in-Ok-clause-streams : goal.returns-in-Ok-clause-streams
+returns-in-Ok-clause-streams c =
+    c.finish_each.ensures
+    ∙ finished-settled c.args.now c.exchange_each.new.streams.items (observed_all c.args.feeds.now c.args.observations.now c.args.streams.now.items) (c.exchange_each.ensures.drafted ∙ c.in_ok-drafts.ensures.observed)

@@ -1,12 +1,24 @@
-use Rattle.std.proofs.Common.{◌≡◌, List, Option, take}
-use Rattle.opentelemetry_sdk.specs.pipeline.Observations.{CanUndo, SavedStreamContents, observed_all, restored_all}
-use Rattle.opentelemetry_sdk.specs.pipeline.Pipelines.{all_without_pending, fates_of}
+use Rattle.std.proofs.Common.{◌≡◌, drop, take, length}
+use Rattle.opentelemetry_sdk.specs.pipeline.Observations.{AreDraftsOf, drafted_all, observed_all}
+use Rattle.opentelemetry_sdk.specs.pipeline.Pipelines.{all_without_pending, changed_each}
+use Rattle.opentelemetry_sdk.specs.pipeline.Streams.{contents_after_record}
 use Rattle.opentelemetry_sdk.proofs.pipeline.observing.observe_each.Given as goal
 
--- the observations so far are taken in, and can be undone
+-- the drafts took in the observations so far
 abbrev pub invariant-loop-observation : goal.invariant-loop-observation
 invariant-loop-observation l = record {
-  observed : all_without_pending l.streams.items ≡ all_without_pending (observed_all l.feeds (take l.observation-index l.observations) l.initial.streams.items);
-  demands : fates_of l.streams.items ≡ fates_of l.initial.streams.items;
-  undone : (saved : List (Option SavedStreamContents)) → CanUndo l.feeds l.observations l.initial.streams.items saved → restored_all saved l.streams.items ≡ restored_all saved l.initial.streams.items;
+  same : all_without_pending l.streams.items ≡ all_without_pending l.initial.streams.items;
+  long : length l.drafts.items ≡ length l.streams.items;
+  fits : AreDraftsOf l.drafts.items l.streams.items;
+  observed : drafted_all l.drafts.items l.streams.items ≡ all_without_pending (observed_all l.feeds (take l.observation-index l.observations) l.initial.streams.items);
+}
+
+-- the first of them took in one observation more
+abbrev pub invariant-loop-k : goal.invariant-loop-k
+invariant-loop-k l = record {
+  same : all_without_pending l.streams.items ≡ all_without_pending l.initial.streams.items;
+  long : length l.drafts.items ≡ length l.streams.items;
+  fits : AreDraftsOf l.drafts.items l.streams.items;
+  left : changed_each (contents_after_record l.observation.value l.observation.attributes) (drop l.k-index l.numbers) (drafted_all l.drafts.items l.streams.items)
+      ≡ changed_each (contents_after_record l.observation.value l.observation.attributes) l.numbers (drafted_all l.initial.drafts.items l.initial.streams.items);
 }

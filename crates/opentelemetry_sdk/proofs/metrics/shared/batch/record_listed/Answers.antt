@@ -1,0 +1,28 @@
+use Rattle.std.proofs.Common.{◌+◌, map, sym, subst, refl}
+use Rattle.std.specs.List.{AllByRecursion as EachOf}
+use Rattle.otel_model.specs.Machine.{part_after_call}
+use Rattle.opentelemetry_sdk.specs.Batches.{IsHolding, call_listed}
+use Rattle.opentelemetry_sdk.specs.pipeline.Handles.{IsHeldByFed}
+use Rattle.opentelemetry_sdk.specs.pipeline.Pipelines.{part_of}
+use Rattle.opentelemetry_sdk.specs.declared.metrics.shared.series.Series.{Series}
+use Rattle.opentelemetry_sdk.proofs.Holding.{holding-fed, holding-held, holding-other, IfSome-weaker}
+use Rattle.opentelemetry_sdk.proofs.metrics.shared.batch.record_listed.Goals as goal
+
+pub record_held-requires-clause-held : goal.record_held-requires-clause-held
+record_held-requires-clause-held c =
+    let h = c.requires.holding in
+    subst (λ (s : Series). EachOf (IsHeldByFed s.instrument (c.args.first + c.args.listed.place)) (map part_of c.args.pipelines.now)) h.2.1
+    (holding-fed c.args.first h.0 c.args.holdings.now h.1 (map part_of c.args.pipelines.now) h.3 c.args.listed.place (sym c.in-Some.ensures))
+
+pub returns-in-Some-clause-made : goal.returns-in-Some-clause-made
+returns-in-Some-clause-made c = λ ss ps at is.
+    subst (IsHolding c.args.first ss c.args.holdings.now (map (part_after_call 0 (call_listed c.args.listed)) ps)) (sym c.record_held.ensures)
+    (holding-held c.args.first ss c.args.holdings.now ps (map part_of c.args.pipelines.now) is c.args.listed at (sym c.in-Some.ensures))
+
+pub returns-then-has_many-clause-made : goal.returns-then-has_many-clause-made
+returns-then-has_many-clause-made c = IfSome-weaker c.record_first.result (λ x made. made c.args.first refl) c.record_first.ensures.made
+
+pub returns-in-Ok-clause-made : goal.returns-in-Ok-clause-made
+returns-in-Ok-clause-made c = λ ss ps at is.
+    subst (IsHolding c.args.first ss c.args.holdings.now (map (part_after_call 0 (call_listed c.args.listed)) ps)) (sym c.in-Ok.ensures.ok)
+    (holding-other c.args.first ss c.args.holdings.now ps (map part_of c.args.pipelines.now) is c.args.listed)

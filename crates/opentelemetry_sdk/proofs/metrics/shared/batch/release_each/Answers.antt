@@ -1,0 +1,51 @@
+use Rattle.std.proofs.Common.{◌+◌, ◌++◌, ◌∷◌, [], ℕ, List, map, sym, subst, arith}
+use Rattle.std.specs.List.{AllByRecursion as EachOf}
+use Rattle.opentelemetry_sdk.specs.Batches.{IsHolding}
+use Rattle.opentelemetry_sdk.specs.pipeline.Handles.{FeedsSynchronous, IsHeldByFed}
+use Rattle.opentelemetry_sdk.specs.pipeline.Pipelines.{part_of}
+use Rattle.opentelemetry_sdk.specs.declared.metrics.shared.series.Series.{Series}
+use Rattle.opentelemetry_sdk.proofs.Holding.{holding-end, holding-fed, holding-inside, holding-none, holding-synchronous}
+use Rattle.opentelemetry_sdk.proofs.Marks.{last-there}
+use Rattle.opentelemetry_sdk.proofs.metrics.shared.batch.release_each.Goals as goal
+
+pub instrument-instrument-requires : goal.instrument-instrument-requires
+instrument-instrument-requires c =
+    let ss : List Series = c.args.waiting.now.series in
+    let held : List ℕ = c.release.new.self ++ c.in-Some.series ∷ [] in
+    let is = subst (λ (hs : List ℕ). IsHolding c.args.first ss hs c.requires.holding.0 (map part_of c.loop-series.pipelines)) c.in-Some.ensures.last (c.loop-series.invariant c.requires.holding.0 c.requires.holding.1) in
+    holding-inside c.args.first ss held c.requires.holding.0 (map part_of c.loop-series.pipelines) is c.in-Some.series (last-there c.release.new.self c.in-Some.series)
+
+pub overflow_add-first : goal.overflow_add-first
+overflow_add-first c =
+    let ss : List Series = c.args.waiting.now.series in
+    let held : List ℕ = c.release.new.self ++ c.in-Some.series ∷ [] in
+    let is = subst (λ (hs : List ℕ). IsHolding c.args.first ss hs c.requires.holding.0 (map part_of c.loop-series.pipelines)) c.in-Some.ensures.last (c.loop-series.invariant c.requires.holding.0 c.requires.holding.1) in
+    let inside = holding-inside c.args.first ss held c.requires.holding.0 (map part_of c.loop-series.pipelines) is c.in-Some.series (last-there c.release.new.self c.in-Some.series) in
+    omega (arith, inside, c.requires.small)
+
+pub unbind_held-requires-clause-synchronous : goal.unbind_held-requires-clause-synchronous
+unbind_held-requires-clause-synchronous c =
+    let ss : List Series = c.args.waiting.now.series in
+    let held : List ℕ = c.release.new.self ++ c.in-Some.series ∷ [] in
+    let is = subst (λ (hs : List ℕ). IsHolding c.args.first ss hs c.requires.holding.0 (map part_of c.loop-series.pipelines)) c.in-Some.ensures.last (c.loop-series.invariant c.requires.holding.0 c.requires.holding.1) in
+    subst (λ n. EachOf (FeedsSynchronous n) (map part_of c.loop-series.pipelines)) (sym c.instrument-instrument.ensures)
+    (holding-synchronous c.args.first ss held c.requires.holding.0 (map part_of c.loop-series.pipelines) is c.in-Some.series (last-there c.release.new.self c.in-Some.series))
+
+pub unbind_held-requires-clause-held : goal.unbind_held-requires-clause-held
+unbind_held-requires-clause-held c =
+    let ss : List Series = c.args.waiting.now.series in
+    let held : List ℕ = c.release.new.self ++ c.in-Some.series ∷ [] in
+    let is = subst (λ (hs : List ℕ). IsHolding c.args.first ss hs c.requires.holding.0 (map part_of c.loop-series.pipelines)) c.in-Some.ensures.last (c.loop-series.invariant c.requires.holding.0 c.requires.holding.1) in
+    subst (λ n. EachOf (IsHeldByFed n (c.args.first + c.in-Some.series)) (map part_of c.loop-series.pipelines)) (sym c.instrument-instrument.ensures)
+    (holding-fed c.args.first ss held c.requires.holding.0 (map part_of c.loop-series.pipelines) is c.in-Some.series (last-there c.release.new.self c.in-Some.series))
+
+pub loop-series-preserved : goal.loop-series-preserved
+loop-series-preserved c = λ ps first.
+    let ss : List Series = c.args.waiting.now.series in
+    let is = subst (λ (hs : List ℕ). IsHolding c.args.first ss hs ps (map part_of c.loop-series.pipelines)) c.in-Some.ensures.last (c.loop-series.invariant ps first) in
+    subst (IsHolding c.args.first ss c.release.new.self ps) (sym c.unbind_held.ensures) (holding-end c.args.first ss c.release.new.self c.in-Some.series ps (map part_of c.loop-series.pipelines) is)
+
+pub returns : goal.returns
+returns c = λ ps first.
+    holding-none c.args.first c.args.waiting.now.series ps (map part_of c.loop-series.pipelines)
+    (subst (λ (hs : List ℕ). IsHolding c.args.first c.args.waiting.now.series hs ps (map part_of c.loop-series.pipelines)) c.in_default.ensures.none (c.loop-series.invariant ps first))

@@ -1,0 +1,135 @@
+//! The series of a worker for which handles are held while its records are made.
+
+ghost use Rattle.std.specs.Prelude.{◌≡◌, ◌++◌, ◌∷◌, [], true, false, is_some, IfOk, IfSome, OnOk, OnErr};
+ghost use Rattle.std.specs.Option.{IfNone};
+ghost use Rattle.otel_model_stream.specs.Totals.{has_number};
+ghost use Rattle.opentelemetry_sdk.specs.Batches.{AreMarked};
+
+use crate::metrics::shared::waiting::Waiting;
+use std::alloc::{AllocError, Global};
+use std::marker::Model;
+
+/// A series with fewer records than this is looked up for each, since a handle costs as much as three or four look-ups.
+/// One without attributes always is: that costs less than a record through a handle.
+const MANY: u32 = 4;
+
+/// How many records wait of each series, and for which of them a handle is held.
+pub(crate) struct Holdings {
+    /// How many records of each series with attributes wait, by the series' places.
+    counts: Vec<u32>,
+    /// Where the handle of each stands among the handles of a stream, if one is held.
+    places: Vec<Option<usize>>,
+    /// The places of the series for which one is held, in order of binding.
+    held: Vec<usize>,
+}
+
+impl Model for Holdings {
+    ghost use Rattle.std.specs.Prelude.{ℕ, List};
+    ghost use Rattle.opentelemetry_sdk.specs.Batches.{AreMarked};
+    ghost use Rattle.opentelemetry_sdk.specs.pipeline.Pipelines.{AreFedOnce};
+
+    ghost Value = { List ℕ };
+
+    ghost view = { λ h. h.held.items };
+
+    ghost invariant = { λ h. AreMarked h.places.items h.held.items × AreFedOnce h.held.items };
+}
+
+impl Drop for Holdings {
+    /// A function of its own, so that no proof about who lets one go looks into it.
+    fn drop(self) {
+        let Holdings {
+            counts: _counts,
+            places: _places,
+            held: _held,
+        } = self;
+    }
+}
+
+/// No places, for this many series.
+fn no_places(alloc: Global, series: usize) -> Result<Vec<Option<usize>>, AllocError>
+    ensures { IfOk result (λ places. AreMarked places.items []) }
+{
+    let mut places = Vec::with_capacity(alloc, series)?;
+    for _ in 0..series {
+        places.push(None)?;
+    }
+    Ok(places)
+}
+
+/// How many records wait of each series with attributes.
+fn counts_of(alloc: Global, waiting: &Waiting) -> Result<Vec<u32>, AllocError> {
+    let mut counts: Vec<u32> = Vec::with_capacity(alloc, waiting.count_series())?;
+    for _ in 0..waiting.count_series() {
+        counts.push(0)?;
+    }
+    for number in 0..waiting.len() {
+        if let Some(listed) = waiting.listed(number) {
+            if let Some(count) = counts.get_mut(listed.place) {
+                *count = count.saturating_add(!listed.attributes.is_empty() as u32);
+            }
+        }
+    }
+    Ok(counts)
+}
+
+impl Holdings {
+    /// Counts the records that wait. No handle is held.
+    pub(crate) fn new(alloc: Global, waiting: &Waiting) -> Result<Holdings, AllocError>
+        ensures { IfOk result (λ holdings. holdings ≡ []) }
+    {
+        Ok(Holdings {
+            counts: counts_of(alloc, waiting)?,
+            places: no_places(alloc, waiting.count_series())?,
+            held: Vec::new(alloc),
+        })
+    }
+
+    /// Whether the series at this place has so many records that a handle is worth while.
+    pub(crate) fn has_many(&self, series: usize) -> bool {
+        match self.counts.get(series) {
+            Some(count) => *count >= MANY,
+            None => false,
+        }
+    }
+
+    /// Where the handle of the series at this place stands among the handles of a stream, if one is held.
+    #[inline(always)]
+    pub(crate) fn place(&self, series: usize) -> Option<usize>
+        ensures { is_some result ≡ has_number series self.now }
+    {
+        self.places.get(series).copied().flatten()
+    }
+
+    /// Notes that a handle is held for the series at this place, which has none.
+    pub(crate) fn hold(&mut self, series: usize) -> Result<(), AllocError>
+        requires { has_number series self.old ≡ false }
+        ensures held { OnOk result (self.new ≡ self.old ++ series ∷ []) }
+        ensures refused { OnErr result (self.new ≡ self.old) }
+    {
+        if series >= self.places.len() {
+            return Err(AllocError);
+        }
+        self.held.push(series)?;
+        self.places[series] = Some(0);
+        Ok(())
+    }
+
+    /// Notes where the handle of a series stands that is held.
+    pub(crate) fn set_place(&mut self, series: usize, place: usize)
+        requires { has_number series self.old ≡ true }
+        ensures { self.new ≡ self.old }
+    {
+        self.places[series] = Some(place);
+    }
+
+    /// Takes out the series for which a handle was bound last.
+    pub(crate) fn release(&mut self) -> Option<usize>
+        ensures last { IfSome result (λ series. self.old ≡ self.new ++ series ∷ []) }
+        ensures none { IfNone result (self.old ≡ []) }
+    {
+        let series = self.held.pop()?;
+        self.places[series] = None;
+        Some(series)
+    }
+}
