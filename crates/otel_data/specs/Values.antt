@@ -10,13 +10,22 @@ use Rattle.otel_data.specs.declared.aggregated.MetricData.{MetricData}
 use Rattle.otel_data.specs.declared.aggregated.MetricData.TheVariants as points
 use Rattle.otel_data.specs.declared.collections.Metric.{Metric}
 use Rattle.otel_data.specs.declared.collections.ResourceMetrics.{ResourceMetrics}
+use Rattle.otel_data.specs.declared.gauges.Gauge.{Gauge}
+use Rattle.otel_data.specs.declared.histograms.Histogram.{Histogram}
 use Rattle.otel_data.specs.declared.numbers.NumberValue.{NumberValue}
 use Rattle.otel_data.specs.declared.numbers.NumberValue.TheVariants.{U64, I64}
+use Rattle.otel_data.specs.declared.sums.Sum.{Sum}
 
 -- the points by number type: those of `u64`, or else those of `i64`
 abbrev pub parts_of : AggregatedMetrics → Option (MetricData ℕ) × Option (MetricData ℤ)
 parts_of (numbers.U64 content) = (Some content, None)
 parts_of (numbers.I64 content) = (None, Some content)
+
+-- the points by aggregation: a gauge, or else a sum, or else a histogram
+abbrev pub kinds_of : {T : Type 0} → MetricData T → Option (Gauge T) × Option (Sum T) × Option (Histogram T)
+kinds_of (points.Gauge gauge) = (Some gauge, None, None)
+kinds_of (points.Sum sum) = (None, Some sum, None)
+kinds_of (points.Histogram histogram) = (None, None, Some histogram)
 
 -- whether there is an attribute, this one
 abbrev pub is_this : KeyValue → Option KeyValue → Bool

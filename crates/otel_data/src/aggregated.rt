@@ -1,7 +1,7 @@
 //! The points of one metric, of any aggregation and number type.
 
 ghost use Rattle.std.specs.Prelude.{◌≡◌};
-ghost use Rattle.otel_data.specs.Values.{parts_of};
+ghost use Rattle.otel_data.specs.Values.{kinds_of, parts_of};
 
 use crate::gauges::Gauge;
 use crate::histograms::Histogram;
@@ -25,6 +25,22 @@ impl<T: Drop> Drop for MetricData<T> {
             MetricData::Gauge(_gauge) => {}
             MetricData::Sum(_sum) => {}
             MetricData::Histogram(_histogram) => {}
+        }
+    }
+}
+
+impl<T> MetricData<T> {
+    /// Consumes the points and returns them by their aggregation: a gauge, or else a sum, or else a histogram. Takes no
+    /// memory.
+    pub fn into_parts(self) -> (Option<Gauge<T>>, Option<Sum<T>>, Option<Histogram<T>>)
+    where
+        T: Drop,
+        ensures { result ≡ kinds_of self }
+    {
+        match self {
+            MetricData::Gauge(gauge) => (Some(gauge), None, None),
+            MetricData::Sum(sum) => (None, Some(sum), None),
+            MetricData::Histogram(histogram) => (None, None, Some(histogram)),
         }
     }
 }

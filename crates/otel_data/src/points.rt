@@ -217,7 +217,8 @@ impl<T> HistogramDataPoint<T> {
         }
     }
 
-    /// Consumes the point and returns its attributes, exemplars, bounds and bucket counts. Takes no memory.
+    /// Consumes the point and returns its attributes, exemplars, bounds and bucket counts. Its count, sum, least and greatest
+    /// value have to be read before. Takes no memory.
     pub fn into_parts(
         self,
     ) -> (

@@ -237,13 +237,13 @@ module _ (feeds : List (List Identity)) where
         events b = cond b (Event.Record (set_for q.demand l) v.amount ∷ []) []
 
         go : (b : Bool) → record {
-              demand = q.demand;
-              machine = run σ (kind_of answers q.demand) q.demand.limit q.machine (events b);
-              start = q.start;
-              reported = q.reported;
-              recorded = recorded_over σ (kind_of answers q.demand) q.demand.limit q.machine q.recorded (events b);
-              exported = q.exported;
-            } ≡ cond b (after_record l v q) q
+          demand = q.demand;
+          machine = run σ (kind_of answers q.demand) q.demand.limit q.machine (events b);
+          start = q.start;
+          reported = q.reported;
+          recorded = recorded_over σ (kind_of answers q.demand) q.demand.limit q.machine q.recorded (events b);
+          exported = q.exported;
+        } ≡ cond b (after_record l v q) q
         go true = refl
         go false = refl
 
@@ -261,8 +261,8 @@ module _ (feeds : List (List Identity)) where
             let s : AttributeSet = set_for q.demand t.list in
             let smp : Sample = sample_of (aggregate_of q.demand) v.amount in
             let same : entry_for s (recorded_at (set_for q.demand l) smp placed).entries ≡ entry_for s q.machine.table.entries =
-                entry_for-on s (entry_for (set_for q.demand l) placed.entries) (write smp) (write-keeps smp) placed.entries
-                ∙ entry_stays q.demand.limit (empty_of (aggregate_of q.demand)) s (set_for q.demand l) q.machine.table.entries (settled refl) in
+            entry_for-on s (entry_for (set_for q.demand l) placed.entries) (write smp) (write-keeps smp) placed.entries
+            ∙ entry_stays q.demand.limit (empty_of (aggregate_of q.demand)) s (set_for q.demand l) q.machine.table.entries (settled refl) in
             λ i. (t.handle, same i) ∷ rest i
         go false settled rest = rest
 
@@ -333,10 +333,10 @@ module _ (feeds : List (List Identity)) where
             let hs : Handles = goals feeds ts q in
             let s : AttributeSet = set_for q.demand t.list in
             let rests : place q.demand.limit (empty_of (aggregate_of q.demand)) s q.machine.table ≡ q.machine.table =
-                λ i. record q.machine.table { entries = settled_rests q.demand.limit (empty_of (aggregate_of q.demand)) s q.machine.table.entries (settled refl) i } in
+            λ i. record q.machine.table { entries = settled_rests q.demand.limit (empty_of (aggregate_of q.demand)) s q.machine.table.entries (settled refl) i } in
             let same : hs ≡ goals feeds ts (after_record t.list v q) = sym (goals-recorded ts t.list v q all) in
             let written : at_entry (goal t q) (write smp) (taken hs q.machine.table) ≡ taken hs (recorded_at s smp (place q.demand.limit (empty_of (aggregate_of q.demand)) s q.machine.table)) =
-                write-taken (goal t q) smp hs q.machine.table ∙ ap (λ (x : Table). taken hs (recorded_at s smp x)) (sym rests) in
+            write-taken (goal t q) smp hs q.machine.table ∙ ap (λ (x : Table). taken hs (recorded_at s smp x)) (sym rests) in
             (λ i. record (after_record t.list v q) { machine = record { table = written i; live = q.machine.live ++ hs } })
             ∙ (λ i. record (after_record t.list v q) { machine = record { table = taken (same i) (after_record t.list v q).machine.table; live = q.machine.live ++ same i } })
         go false settled = refl
@@ -364,13 +364,13 @@ module _ (feeds : List (List Identity)) where
         events b = cond b (Event.Bind h (set_for q.demand l) ∷ []) []
 
         go : (b : Bool) → record {
-              demand = q.demand;
-              machine = run σ (kind_of answers q.demand) q.demand.limit q.machine (events b);
-              start = q.start;
-              reported = q.reported;
-              recorded = recorded_over σ (kind_of answers q.demand) q.demand.limit q.machine q.recorded (events b);
-              exported = q.exported;
-            } ≡ cond b (after_bind h l q) q
+          demand = q.demand;
+          machine = run σ (kind_of answers q.demand) q.demand.limit q.machine (events b);
+          start = q.start;
+          reported = q.reported;
+          recorded = recorded_over σ (kind_of answers q.demand) q.demand.limit q.machine q.recorded (events b);
+          exported = q.exported;
+        } ≡ cond b (after_bind h l q) q
         go true = refl
         go false = refl
 
@@ -411,7 +411,7 @@ module _ (feeds : List (List Identity)) where
             let limit : ℕ = q.demand.limit in
             let empty = empty_of (aggregate_of q.demand) in
             let twice : place limit empty s (place limit empty s q.machine.table) ≡ place limit empty s q.machine.table =
-                λ i. record q.machine.table { entries = settled_rests limit empty s (place limit empty s q.machine.table).entries (settled_once limit empty s q.machine.table.entries) i } in
+            λ i. record q.machine.table { entries = settled_rests limit empty s (place limit empty s q.machine.table).entries (settled_once limit empty s q.machine.table.entries) i } in
             record-by next n v l (set_placed l q) ∙ ap (λ b. cond b (after_record l v (set_placed l q)) (set_placed l q)) r
             ∙ (λ i. record (after_record l v q) { machine = record q.machine { table = recorded_at s (sample_of (aggregate_of q.demand) v.amount) (twice i) } })
             ∙ ap (λ b. cond b (after_record l v q) q) (sym r) ∙ sym (record-by next n v l q)
@@ -429,11 +429,11 @@ module _ (feeds : List (List Identity)) where
             let g : AttributeSet = entry_for s grown.entries in
             let placed = place-taken q.demand.limit (aggregate_of q.demand) s hs q.machine.table (goals-there ts q all) in
             let same : hs ++ (t.handle, g) ∷ [] ≡ goals feeds (ts ++ t ∷ []) (set_placed t.list q) =
-                (λ i. sym (goals-placed ts true t.list q all) i ++ with_goal feeds (sym r i) t (set_placed t.list q) []) ∙ sym (goals-append ts t (set_placed t.list q)) in
+            (λ i. sym (goals-placed ts true t.list q all) i ++ with_goal feeds (sym r i) t (set_placed t.list q) []) ∙ sym (goals-append ts t (set_placed t.list q)) in
             let table : at_entry (entry_for s (place q.demand.limit (empty_of (aggregate_of q.demand)) s (taken hs q.machine.table)).entries) take_handle (place q.demand.limit (empty_of (aggregate_of q.demand)) s (taken hs q.machine.table)) ≡ taken (hs ++ (t.handle, g) ∷ []) grown =
-                ap (λ (x : Table). at_entry (entry_for s x.entries) take_handle x) placed ∙ (ap (λ x. at_entry x take_handle (taken hs grown)) (goal-taken s hs grown) ∙ sym (taken-append hs (t.handle, g) grown)) in
+            ap (λ (x : Table). at_entry (entry_for s x.entries) take_handle x) placed ∙ (ap (λ x. at_entry x take_handle (taken hs grown)) (goal-taken s hs grown) ∙ sym (taken-append hs (t.handle, g) grown)) in
             let live : (q.machine.live ++ hs) ++ (t.handle, entry_for s (place q.demand.limit (empty_of (aggregate_of q.demand)) s (taken hs q.machine.table)).entries) ∷ [] ≡ q.machine.live ++ (hs ++ (t.handle, g) ∷ []) =
-                append_assoc q.machine.live hs _ ∙ ap (λ x. q.machine.live ++ (hs ++ (t.handle, x) ∷ [])) (ap (λ (x : Table). entry_for s x.entries) placed ∙ goal-taken s hs grown) in
+            append_assoc q.machine.live hs _ ∙ ap (λ x. q.machine.live ++ (hs ++ (t.handle, x) ∷ [])) (ap (λ (x : Table). entry_for s x.entries) placed ∙ goal-taken s hs grown) in
             (λ i. record q { machine = record { table = table i; live = live i } })
             ∙ (λ i. record q { machine = record { table = taken (same i) grown; live = q.machine.live ++ same i } })
         go false r =
@@ -443,7 +443,7 @@ module _ (feeds : List (List Identity)) where
     -- the first measurement of a series, through a handle that is bound for it
     pub first-stream : (next : ℕ) (v : Number) (ts : List Temporary) (t : Temporary) (q : Stream) → AreDistinct ts → AreIn feeds ts q → has_handle t.handle ts ≡ false → held_by t.handle q.machine.live ≡ None
         → (stream_after answers feeds next (RecordBound t.handle v) (stream_after answers feeds t.handle (Bind t.instrument t.list) (stream_with feeds ts q)) ≡ stream_with feeds (ts ++ t ∷ []) (stream_after answers feeds next (Record t.instrument v t.list) q))
-            × AreIn feeds (ts ++ t ∷ []) (stream_after answers feeds next (Record t.instrument v t.list) q)
+        × AreIn feeds (ts ++ t ∷ []) (stream_after answers feeds next (Record t.instrument v t.list) q)
     first-stream next v ts t q apart all new unheld =
         let placed : Stream = placed_if (reaches feeds t q) t.list q in
         let more : AreIn feeds (ts ++ t ∷ []) placed = each-append (λ (x : Temporary). IsSettled feeds x placed × (held_by x.handle placed.machine.live ≡ None)) ts t (in-placed ts (reaches feeds t q) t.list q all) (placed-here t q, live-placed t.handle (reaches feeds t q) t.list q unheld) in
@@ -478,13 +478,15 @@ module _ (feeds : List (List Identity)) where
             let g : AttributeSet = goal t q in
             let live : q.machine.live ++ (hs ++ (t.handle, g) ∷ []) ≡ (q.machine.live ++ hs) ++ (t.handle, g) ∷ [] = sym (append_assoc q.machine.live hs ((t.handle, g) ∷ [])) in
             let held : held_by t.handle ((q.machine.live ++ hs) ++ (t.handle, g) ∷ []) ≡ Some g =
-                held-append t.handle (q.machine.live ++ hs) ((t.handle, g) ∷ []) none ∙ ap (λ b. cond b (Some g) None) (eq-eqb t.handle t.handle refl) in
+            held-append t.handle (q.machine.live ++ hs) ((t.handle, g) ∷ []) none ∙ ap (λ b. cond b (Some g) None) (eq-eqb t.handle t.handle refl) in
             (λ i. after_end (held_by t.handle (live i)) t.handle (record q { machine = record { table = taken (hs ++ (t.handle, g) ∷ []) q.machine.table; live = live i } }))
             ∙ ap (λ o. after_end o t.handle (record q { machine = record { table = taken (hs ++ (t.handle, g) ∷ []) q.machine.table; live = (q.machine.live ++ hs) ++ (t.handle, g) ∷ [] } })) held
-            ∙ (λ i. record q { machine = record {
-              table = (ap (at_entry g drop_handle) (taken-append hs (t.handle, g) q.machine.table) ∙ drop-take g (taken hs q.machine.table)) i;
-              live = without-last t.handle g (q.machine.live ++ hs) none i;
-            } })
+            ∙ (λ i. record q {
+              machine = record {
+                table = (ap (at_entry g drop_handle) (taken-append hs (t.handle, g) q.machine.table) ∙ drop-take g (taken hs q.machine.table)) i;
+                live = without-last t.handle g (q.machine.live ++ hs) none i;
+              };
+            })
         go false =
             (λ i. after_end (held_by t.handle (q.machine.live ++ append-nil hs i)) t.handle (record q { machine = record { table = taken (append-nil hs i) q.machine.table; live = q.machine.live ++ append-nil hs i } }))
             ∙ ap (λ o. after_end o t.handle (stream_with feeds ts q)) none
@@ -555,12 +557,12 @@ with-held h v ts t ps apart all at =
 -- the first one of its series, through a handle that is bound for it
 pub with-first : (v : Number) (ts : List Temporary) (t : Temporary) (ps : List ReaderPart) → AreDistinct ts → AreInParts ts ps → has_handle t.handle ts ≡ false → AreUnheld t.handle ps
     → (map (part_after_call 0 (RecordBound t.handle v)) (map (part_after_call t.handle (Bind t.instrument t.list)) (parts_with ts ps)) ≡ parts_with (ts ++ t ∷ []) (map (part_after_call 0 (Record t.instrument v t.list)) ps))
-        × AreInParts (ts ++ t ∷ []) (map (part_after_call 0 (Record t.instrument v t.list)) ps)
+    × AreInParts (ts ++ t ∷ []) (map (part_after_call 0 (Record t.instrument v t.list)) ps)
 with-first v ts t ps apart all new unheld = go ps all unheld
   where
     one : (p : ReaderPart) → EachOf (AreIn p.feeds ts) p.streams → EachOf (λ (q : Stream). held_by t.handle q.machine.live ≡ None) p.streams
         → (part_after_call 0 (RecordBound t.handle v) (part_after_call t.handle (Bind t.instrument t.list) (record p { streams = map (stream_with p.feeds ts) p.streams })) ≡ record p { streams = map (stream_with p.feeds (ts ++ t ∷ [])) (part_after_call 0 (Record t.instrument v t.list) p).streams })
-            × EachOf (AreIn p.feeds (ts ++ t ∷ [])) (part_after_call 0 (Record t.instrument v t.list) p).streams
+        × EachOf (AreIn p.feeds (ts ++ t ∷ [])) (part_after_call 0 (Record t.instrument v t.list) p).streams
     one p all none =
         let both = each-both (AreIn p.feeds ts) (λ (q : Stream). held_by t.handle q.machine.live ≡ None) p.streams all none in (
           (λ i. record p { streams = map-three p.streams both i }),
@@ -575,7 +577,7 @@ with-first v ts t ps apart all new unheld = go ps all unheld
 
     go : (ps : List ReaderPart) → AreInParts ts ps → AreUnheld t.handle ps
         → (map (part_after_call 0 (RecordBound t.handle v)) (map (part_after_call t.handle (Bind t.instrument t.list)) (parts_with ts ps)) ≡ parts_with (ts ++ t ∷ []) (map (part_after_call 0 (Record t.instrument v t.list)) ps))
-            × AreInParts (ts ++ t ∷ []) (map (part_after_call 0 (Record t.instrument v t.list)) ps)
+        × AreInParts (ts ++ t ∷ []) (map (part_after_call 0 (Record t.instrument v t.list)) ps)
     go [] all none = (refl, tt)
     go (p ∷ ps) all none = let here = one p all.0 none.0 in let rest = go ps all.1 none.1 in ((λ i. here.0 i ∷ rest.0 i), (here.1, rest.1))
 

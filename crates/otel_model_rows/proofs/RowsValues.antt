@@ -5,7 +5,7 @@ use Rattle.std.proofs.Common.{refl}
 use Rattle.otel_common.specs.declared.attributes.KeyValue.{KeyValue}
 use Rattle.otel_common.specs.declared.attributes.Value.TheVariants as value
 use Rattle.otel_common.specs.declared.metrics.Temporality.TheVariants.{Cumulative}
-use Rattle.otel_data.specs.Values.{parts_of, is_this, is_first, has_key, is_set, value_in, count_in, number_in, any_count_in, metric_in, value_at, count_at}
+use Rattle.otel_data.specs.Values.{kinds_of, parts_of, is_this, is_first, has_key, is_set, value_in, count_in, number_in, any_count_in, metric_in, value_at, count_at}
 use Rattle.otel_data.specs.declared.aggregated.AggregatedMetrics.{AggregatedMetrics}
 use Rattle.otel_data.specs.declared.aggregated.AggregatedMetrics.TheVariants.{U64, I64}
 use Rattle.otel_data.specs.declared.aggregated.MetricData.{MetricData}
@@ -13,8 +13,11 @@ use Rattle.otel_data.specs.declared.aggregated.MetricData.TheVariants as points
 use Rattle.otel_data.specs.declared.collections.Metric.{Metric}
 use Rattle.otel_data.specs.declared.collections.ResourceMetrics.{ResourceMetrics}
 use Rattle.otel_data.specs.declared.collections.ScopeMetrics.{ScopeMetrics}
+use Rattle.otel_data.specs.declared.gauges.Gauge.{Gauge}
+use Rattle.otel_data.specs.declared.histograms.Histogram.{Histogram}
 use Rattle.otel_data.specs.declared.numbers.NumberValue.TheVariants as number
 use Rattle.otel_data.specs.declared.points.SumDataPoint.{SumDataPoint}
+use Rattle.otel_data.specs.declared.sums.Sum.{Sum}
 
 abbrev is : List ℕ → ℕ → KeyValue
 is key n = record { key = key; value = value.I64 (pos n) }
@@ -53,8 +56,14 @@ empty_set = refl
 abbrev point : ℕ → List KeyValue → SumDataPoint ℕ
 point n place = record { attributes = place; exemplars = []; value = n }
 
+abbrev total : Sum ℕ
+total = record { data_points = point 5 (a1 ∷ []) ∷ point 7 (a1 ∷ b2 ∷ []) ∷ point 8 (a1 ∷ b2 ∷ []) ∷ []; start_time = 0; time = 1; temporality = Cumulative; is_monotonic = true }
+
 abbrev sum : MetricData ℕ
-sum = points.Sum (record { data_points = point 5 (a1 ∷ []) ∷ point 7 (a1 ∷ b2 ∷ []) ∷ point 8 (a1 ∷ b2 ∷ []) ∷ []; start_time = 0; time = 1; temporality = Cumulative; is_monotonic = true })
+sum = points.Sum total
+
+abbrev last : Gauge ℕ
+last = record { data_points = []; start_time = 2; time = 3 }
 
 abbrev gauge : AggregatedMetrics
 gauge = I64 (points.Gauge (record { data_points = record { attributes = a1 ∷ b2 ∷ []; exemplars = []; value = negsuc 6 } ∷ []; start_time = 0; time = 1 }))
@@ -62,8 +71,14 @@ gauge = I64 (points.Gauge (record { data_points = record { attributes = a1 ∷ b
 pub number_types : (parts_of (U64 sum) ≡ (Some sum, None)) × (parts_of (I64 (points.Gauge (record { data_points = []; start_time = 2; time = 3 }))) ≡ (None, Some (points.Gauge (record { data_points = []; start_time = 2; time = 3 }))))
 number_types = (refl, refl)
 
+abbrev spread : Histogram ℕ
+spread = record { data_points = record { attributes = a1 ∷ b2 ∷ []; exemplars = []; bounds = []; bucket_counts = []; count = 3; min = None; max = None; sum = 44 } ∷ []; start_time = 0; time = 1; temporality = Cumulative; has_sum = true }
+
 abbrev histogram : MetricData ℕ
-histogram = points.Histogram (record { data_points = record { attributes = a1 ∷ b2 ∷ []; exemplars = []; bounds = []; bucket_counts = []; count = 3; min = None; max = None; sum = 44 } ∷ []; start_time = 0; time = 1; temporality = Cumulative; has_sum = true })
+histogram = points.Histogram spread
+
+pub aggregations : (kinds_of sum ≡ (None, Some total, None)) × (kinds_of histogram ≡ (None, None, Some spread)) × (kinds_of (points.Gauge last) ≡ (Some last, None, None))
+aggregations = (refl, refl, refl)
 
 pub values : map (λ attributes. value_in attributes sum) ((b2 ∷ a1 ∷ []) ∷ (a1 ∷ []) ∷ (b2 ∷ []) ∷ []) ≡ Some 7 ∷ Some 5 ∷ None ∷ []
 values = refl
