@@ -45,13 +45,6 @@ marked-inside places ns s marked e = inside places s (marked s ∙ e)
     inside (p ∷ places) zero e = omega arith
     inside (p ∷ places) (suc s) e = let rest = inside places s e in omega arith
 
--- one more without a place
-pub marked-push : (places : List (Option ℕ)) → AreMarked places [] → AreMarked (places ++ None ∷ []) []
-marked-push [] marked zero = refl
-marked-push [] marked (suc n) = refl
-marked-push (p ∷ places) marked zero = marked zero
-marked-push (p ∷ places) marked (suc n) = marked-push places (λ k. marked (suc k)) n
-
 -- one more
 pub marked-more : (places : List (Option ℕ)) (ns : List ℕ) (s p : ℕ) → s < length places → AreMarked places ns → AreMarked (set places s (Some p)) (ns ++ s ∷ [])
 marked-more places ns s p lt marked n = there-set places s n (Some p) lt ∙ (go (s == n) ∙ sym (has-more ns s n))

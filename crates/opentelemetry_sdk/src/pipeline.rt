@@ -20,7 +20,6 @@ use crate::pipeline::observing::collect_observed;
 use indexmap::IndexSet;
 use otel_aggregate::value_map::hashed_key::GivenAttributes;
 use otel_aggregate::value_map::hashing::SetHashBuilder;
-use otel_common::attributes::KeyValue;
 use otel_common::faults::Fault;
 use otel_common::lists::Items;
 use otel_common::resource::Resource;
@@ -170,7 +169,7 @@ impl Pipeline {
         &mut self,
         instrument: usize,
         value: NumberValue,
-        attributes: &[KeyValue],
+        attributes: &GivenAttributes,
     ) -> Result<(), AllocError>
         requires { FeedsType instrument (is_signed_value value) (part_of self.old) }
         ensures ok { OnOk result (part_of self.new ≡ part_after_call 0 (model.Call.Record instrument (number_of value) attributes.now) (part_of self.old)) }
@@ -185,31 +184,22 @@ impl Pipeline {
         self.record_each(instrument, value, attributes)
     }
 
-    /// The attributes of a record, with their hash if several streams are to look them up.
-    fn given_to<'a>(&self, instrument: usize, attributes: &'a [KeyValue]) -> GivenAttributes<'a>
-        ensures { result ≡ attributes.now }
-    {
-        if streams_fed(&self.feeds, instrument).len() > 1 {
-            GivenAttributes::hashed(self.hasher, attributes)
-        } else {
-            GivenAttributes::new(attributes)
-        }
-    }
-
-    /// Makes a record with these attributes in all streams that the instrument feeds or in none, in two passes.
+    /// Makes a record with these attributes in all streams that the instrument feeds or in none, in two passes. Hashes
+    /// them once if several streams look them up.
     #[inline(never)]
     fn record_each(
         &mut self,
         instrument: usize,
         value: NumberValue,
-        attributes: &[KeyValue],
+        attributes: &GivenAttributes,
     ) -> Result<(), AllocError>
         requires { FeedsType instrument (is_signed_value value) (part_of self.old) }
         ensures ok { OnOk result (part_of self.new ≡ part_after_call 0 (model.Call.Record instrument (number_of value) attributes.now) (part_of self.old)) }
         ensures err { OnErr result (part_of self.new ≡ part_of self.old) }
         ensures known { is_known_at instrument attributes.now (part_of self.old) ≡ true → IsOk result }
     {
-        let given = self.given_to(instrument, attributes);
+        let streams = streams_fed(&self.feeds, instrument).len();
+        let given = attributes.hashed_for(streams, self.hasher);
         self.prepare(instrument, &given)?;
         self.commit(instrument, value);
         Ok(())

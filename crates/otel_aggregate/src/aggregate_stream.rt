@@ -21,7 +21,6 @@ use crate::value_map::ValueMap;
 use crate::value_map::hashed_key::GivenAttributes;
 use crate::value_map::hashing::SetHashBuilder;
 use crate::values::{bits_of, is_signed, law_of_range};
-use otel_common::attributes::KeyValue;
 use otel_common::faults::Fault;
 use otel_common::keys::Key;
 use otel_common::lists::Items;
@@ -270,7 +269,7 @@ impl AggregateStream {
     pub fn measure(
         &mut self,
         value: NumberValue,
-        attributes: &[KeyValue],
+        attributes: &GivenAttributes,
     ) -> Result<bool, AllocError>
         ensures taken { OnOk result (self.new ≡ any_after_record value attributes.now self.old) }
         ensures told { IfOk result (λ taken. taken ≡ beq (is_signed_value value) self.old.is_signed) }
@@ -281,11 +280,11 @@ impl AggregateStream {
             return Ok(false);
         }
         if self.allow.is_some() {
-            self.prepare(&GivenAttributes::new(attributes))?;
+            self.prepare(attributes)?;
             return Ok(self.commit(value));
         }
         let record = self.settings.record(value);
-        let measured = self.map.measure(record, attributes);
+        let measured = self.map.measure_given(record, attributes);
         self.map.law_of_numbers();
         match measured {
             Ok(()) => Ok(true),

@@ -8,6 +8,7 @@ ghost use Rattle.otel_aggregate.specs.Observed.{new_observed, observed_attribute
 use crate::aggregate_stream::AggregateStream;
 use crate::aggregators::number::Number;
 use crate::settings::AnySettings;
+use crate::value_map::hashed_key::GivenAttributes;
 use crate::value_map::hashing::SetHashBuilder;
 use otel_common::attributes::KeyValue;
 use otel_common::faults::Fault;
@@ -95,7 +96,8 @@ impl<T: Number + Drop> PrecomputedSum<T> {
         ensures only_memory { IsOkUnless result Fault.OutOfMemory }
     {
         value.law_of_value();
-        self.stream.measure(value.into_value(), attributes)?;
+        let given = GivenAttributes::new(attributes);
+        self.stream.measure(value.into_value(), &given)?;
         Ok(())
     }
 

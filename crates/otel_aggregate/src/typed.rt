@@ -132,7 +132,8 @@ impl<T: Number + Drop, A: TypedAggregate<T>> TypedStream<T, A> {
         ensures only_memory { IsOkUnless result Fault.OutOfMemory }
     {
         value.law_of_value();
-        self.stream.measure(value.into_value(), attributes)?;
+        let given = GivenAttributes::new(attributes);
+        self.stream.measure(value.into_value(), &given)?;
         Ok(())
     }
 

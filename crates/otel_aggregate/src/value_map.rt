@@ -409,13 +409,32 @@ impl<A: Aggregator> ValueMap<A> {
         ensures placed { IsTrue (is_placed (canon attributes.now) self.old.state.table.entries) → IsOk result }
         ensures only_memory { IsOkUnless result Fault.OutOfMemory }
     {
-        let list = HashedSet::new(self.table.hasher(), attributes);
+        self.measure_given(value, &GivenAttributes::new(attributes))
+    }
+
+    /// Does what `measure` does with attributes that may have their hash.
+    #[inline(always)]
+    pub(crate) fn measure_given(
+        &mut self,
+        value: A::PreComputedValue,
+        attributes: &GivenAttributes,
+    ) -> Result<(), Fault>
+        ensures ok { OnOk result (known_of self.new ≡ measured_list attributes.now (A.sample value) (known_of self.old)) }
+        ensures learned { OnOk result (IsTrue (is_admitted (canon attributes.now) self.old.state) → AreKnown attributes.now (known_of self.new)) }
+        ensures numbers { KeepNumbers self.old.numbers self.new.numbers }
+        ensures err { OnErr result (known_of self.new ≡ known_of self.old) }
+        ensures spent { self.new.pending ≡ None }
+        ensures known { SucceedsIfKnown attributes.now (known_of self.old) result }
+        ensures placed { IsTrue (is_placed (canon attributes.now) self.old.state.table.entries) → IsOk result }
+        ensures only_memory { IsOkUnless result Fault.OutOfMemory }
+    {
+        let list = attributes.list(self.table.hasher());
         if let Some(number) = led_to(&self.table, &list) {
             self.pending.give_up();
             self.table.touch(number, value);
             return Ok(());
         }
-        self.measure_unknown(value, &list, attributes)?;
+        self.measure_unknown(value, &list, attributes.as_slice())?;
         Ok(())
     }
 

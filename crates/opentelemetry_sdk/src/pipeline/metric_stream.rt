@@ -16,7 +16,6 @@ use crate::pipeline::draft::StreamDraft;
 use otel_aggregate::aggregate_stream::AggregateStream;
 use otel_aggregate::value_map::hashed_key::GivenAttributes;
 use otel_aggregate::value_map::hashing::SetHashBuilder;
-use otel_common::attributes::KeyValue;
 use otel_common::faults::Fault;
 use otel_common::laws::copied_attributes;
 use otel_common::metrics::Temporality;
@@ -163,7 +162,7 @@ impl MetricStream {
     pub(crate) fn record(
         &mut self,
         value: NumberValue,
-        attributes: &[KeyValue],
+        attributes: &GivenAttributes,
     ) -> Result<(), AllocError>
         ensures ok { OnOk result (self.new ≡ contents_after_record value attributes.now self.old) }
         ensures err { OnErr result (without_pending self.new ≡ without_pending self.old) }
@@ -287,7 +286,8 @@ impl MetricStream {
         ensures only_memory { IsOkUnless result Fault.OutOfMemory }
     {
         self.enter_draft(alloc, draft)?;
-        let observed = self.record(observation.value, observation.attributes.as_slice());
+        let attributes = GivenAttributes::new(observation.attributes.as_slice());
+        let observed = self.record(observation.value, &attributes);
         self.exchange(draft);
         observed?;
         Ok(())

@@ -17,7 +17,6 @@ use crate::pipeline::Pipeline;
 use crate::pipeline::about::About;
 use otel_aggregate::value_map::hashed_key::GivenAttributes;
 use otel_aggregate::value_map::hashing::SetHashBuilder;
-use otel_common::attributes::KeyValue;
 use otel_common::faults::Fault;
 use otel_common::scopes::InstrumentationScope;
 use otel_data::numbers::NumberValue;
@@ -132,13 +131,12 @@ pub(crate) fn build_or_none(
 }
 
 /// The attributes of a record or a bind, with their hash if several readers are to look them up.
-fn given_at<'a>(pipelines: &[Pipeline], attributes: &'a [KeyValue]) -> GivenAttributes<'a>
+fn given_at<'a>(pipelines: &[Pipeline], attributes: &GivenAttributes<'a>) -> GivenAttributes<'a>
     ensures { result ≡ attributes.now }
 {
-    if pipelines.len() > 1 {
-        GivenAttributes::hashed(pipelines[0].hasher(), attributes)
-    } else {
-        GivenAttributes::new(attributes)
+    match pipelines.first() {
+        Some(first) => attributes.hashed_for(pipelines.len(), first.hasher()),
+        None => GivenAttributes::new(attributes.as_slice()),
     }
 }
 
@@ -149,7 +147,7 @@ fn record_given(
     pipelines: &mut [Pipeline],
     instrument: usize,
     value: NumberValue,
-    attributes: &[KeyValue],
+    attributes: &GivenAttributes,
 ) -> Result<(), AllocError>
     requires { FeedType instrument (number_of value) (map part_of pipelines.old) }
     ensures ok { OnOk result (map part_of pipelines.new ≡ map (part_after_call 0 (model.Call.Record instrument (number_of value) attributes.now)) (map part_of pipelines.old)) }
@@ -169,7 +167,7 @@ pub(crate) fn record_or_none(
     pipelines: &mut [Pipeline],
     instrument: usize,
     value: NumberValue,
-    attributes: &[KeyValue],
+    attributes: &GivenAttributes,
 ) -> Result<(), Fault>
     requires { FeedType instrument (number_of value) (map part_of pipelines.old) }
     ensures ok { OnOk result (map part_of pipelines.new ≡ map (part_after_call 0 (model.Call.Record instrument (number_of value) attributes.now)) (map part_of pipelines.old)) }
@@ -179,14 +177,14 @@ pub(crate) fn record_or_none(
     ensures only_memory { IsOkUnless result Fault.OutOfMemory }
 {
     if pipelines.len() == 1 {
-        if attributes.is_empty() {
+        if attributes.as_slice().is_empty() {
             pipelines[0].record_none(instrument, value);
             return Ok(());
         }
         pipelines[0].record(instrument, value, attributes)?;
         return Ok(());
     }
-    if attributes.is_empty() {
+    if attributes.as_slice().is_empty() {
         record_none_all(pipelines, instrument, value);
         return Ok(());
     }
@@ -200,7 +198,7 @@ pub(crate) fn bind_or_none(
     pipelines: &mut [Pipeline],
     instrument: usize,
     handle: u64,
-    attributes: &[KeyValue],
+    attributes: &GivenAttributes,
 ) -> Result<usize, Fault>
     requires synchronous { EachOf (FeedsSynchronous instrument) (map part_of pipelines.old) }
     requires new { EachOf (IsNewAt handle) (map part_of pipelines.old) }

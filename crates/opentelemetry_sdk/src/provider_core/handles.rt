@@ -10,6 +10,7 @@ use crate::provider_core::Core;
 use crate::provider_core::checks::{check_bind, check_held};
 use crate::provider_core::each_pipeline::{bind_or_none, record_held, unbind_held};
 use otel_aggregate::links::{add, make_room, number_in, number_near, take_out};
+use otel_aggregate::value_map::hashed_key::GivenAttributes;
 use otel_common::attributes::KeyValue;
 use otel_common::faults::Fault;
 use otel_data::numbers::NumberValue;
@@ -58,7 +59,8 @@ impl Core {
         }
         make_room(&mut self.handles)?;
         let number = self.next;
-        let stream_place = bind_or_none(&mut self.pipelines, instrument, number, attributes)?;
+        let given = GivenAttributes::new(attributes);
+        let stream_place = bind_or_none(&mut self.pipelines, instrument, number, &given)?;
         let place = add(&mut self.handles, number, instrument);
         self.next += 1;
         Ok(BoundHandle {

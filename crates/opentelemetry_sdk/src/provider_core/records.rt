@@ -11,6 +11,7 @@ ghost use Rattle.opentelemetry_sdk.specs.States.{IsNamed};
 use crate::provider_core::Core;
 use crate::provider_core::checks::check_value;
 use crate::provider_core::each_pipeline::record_or_none;
+use otel_aggregate::value_map::hashed_key::GivenAttributes;
 use otel_common::attributes::KeyValue;
 use otel_common::faults::Fault;
 use otel_data::numbers::NumberValue;
@@ -37,7 +38,8 @@ impl Core {
         if let Err(fault) = check_value(&self.instruments, instrument, value) {
             return Err(fault);
         }
-        record_or_none(&mut self.pipelines, instrument, value, attributes)?;
+        let given = GivenAttributes::new(attributes);
+        record_or_none(&mut self.pipelines, instrument, value, &given)?;
         self.instruments[instrument].accept(value);
         Ok(())
     }

@@ -204,6 +204,25 @@ impl OwnedSet {
         }
     }
 
+    /// The attributes of records that are looked up by the set's hash.
+    #[inline(always)]
+    pub fn given(&self) -> GivenAttributes<'_>
+        ensures { result ≡ self.now }
+    {
+        GivenAttributes {
+            attributes: self.set.as_slice(),
+            hashed: Some((self.hasher, self.hash)),
+        }
+    }
+
+    /// The attributes.
+    #[inline(always)]
+    pub fn as_slice(&self) -> &[KeyValue]
+        ensures { result.now ≡ self.now }
+    {
+        self.set.as_slice()
+    }
+
     /// Whether another set has the same attributes in the same order.
     pub fn is_same(&self, other: &OwnedSet) -> bool
         ensures { result ≡ set_eq self.now other.now }
@@ -229,7 +248,8 @@ impl OwnedSet {
     }
 }
 
-/// The attributes of a record as given, perhaps with their hash, so that a record for several maps hashes them once.
+/// The attributes of a record as given, perhaps with their hash, so that they are hashed once for several maps or several
+/// records.
 pub struct GivenAttributes<'a> {
     attributes: &'a [KeyValue],
     /// What they were hashed with, and the hash.
@@ -270,14 +290,20 @@ impl<'a> GivenAttributes<'a> {
         }
     }
 
-    /// Attributes for several maps that hash with this hasher.
-    pub fn hashed(hasher: SetHashBuilder, attributes: &'a [KeyValue]) -> GivenAttributes<'a>
-        ensures { result ≡ attributes.now }
+    /// The same attributes for this many maps that hash with this hasher: with their hash if there are several. They keep a
+    /// hash that they have.
+    pub fn hashed_for(&self, maps: usize, hasher: SetHashBuilder) -> GivenAttributes<'a>
+        ensures { result ≡ self.now }
     {
-        let hash = hash_list(hasher, attributes);
+        if maps < 2 || self.hashed.is_some() {
+            return GivenAttributes {
+                attributes: self.attributes,
+                hashed: self.hashed,
+            };
+        }
         GivenAttributes {
-            attributes,
-            hashed: Some((hasher, hash)),
+            attributes: self.attributes,
+            hashed: Some((hasher, hash_list(hasher, self.attributes))),
         }
     }
 

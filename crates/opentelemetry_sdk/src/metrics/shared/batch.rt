@@ -42,7 +42,8 @@ fn record_first(
     let Ok(()) = holdings.hold(listed.place) else {
         return None;
     };
-    match bind_or_none(pipelines, listed.instrument, handle, listed.attributes) {
+    let given = listed.attributes.given();
+    match bind_or_none(pipelines, listed.instrument, handle, &given) {
         Ok(place) => {
             holdings.set_place(listed.place, place);
             record_held(pipelines, listed.instrument, handle, place, listed.value);
@@ -75,15 +76,11 @@ fn record_listed(
         record_held(pipelines, listed.instrument, handle, place, listed.value);
         return Some(());
     }
-    if holdings.has_many(listed.place) {
+    if holdings.has_many(listed.place, listed.attributes.as_slice().len()) {
         return record_first(pipelines, holdings, handle, listed);
     }
-    match record_or_none(
-        pipelines,
-        listed.instrument,
-        listed.value,
-        listed.attributes,
-    ) {
+    let given = listed.attributes.given();
+    match record_or_none(pipelines, listed.instrument, listed.value, &given) {
         Ok(()) => Some(()),
         Err(_) => None,
     }

@@ -15,7 +15,7 @@ const MANY: u32 = 4;
 
 /// How many records wait of each series, and for which of them a handle is held.
 pub(crate) struct Holdings {
-    /// How many records of each series with attributes wait, by the series' places.
+    /// How many records of each series wait, by the series' places.
     counts: Vec<u32>,
     /// Where the handle of each stands among the handles of a stream, if one is held.
     places: Vec<Option<usize>>,
@@ -46,49 +46,22 @@ impl Drop for Holdings {
     }
 }
 
-/// No places, for this many series.
-fn no_places(alloc: Global, series: usize) -> Result<Vec<Option<usize>>, AllocError>
-    ensures { IfOk result (λ places. AreMarked places.items []) }
-{
-    let mut places = Vec::with_capacity(alloc, series)?;
-    for _ in 0..series {
-        places.push(None)?;
-    }
-    Ok(places)
-}
-
-/// How many records wait of each series with attributes.
-fn counts_of(alloc: Global, waiting: &Waiting) -> Result<Vec<u32>, AllocError> {
-    let mut counts: Vec<u32> = Vec::with_capacity(alloc, waiting.count_series())?;
-    for _ in 0..waiting.count_series() {
-        counts.push(0)?;
-    }
-    for number in 0..waiting.len() {
-        if let Some(listed) = waiting.listed(number) {
-            if let Some(count) = counts.get_mut(listed.place) {
-                *count = count.saturating_add(!listed.attributes.is_empty() as u32);
-            }
-        }
-    }
-    Ok(counts)
-}
-
 impl Holdings {
     /// Counts the records that wait. No handle is held.
     pub(crate) fn new(alloc: Global, waiting: &Waiting) -> Result<Holdings, AllocError>
         ensures { IfOk result (λ holdings. holdings ≡ []) }
     {
         Ok(Holdings {
-            counts: counts_of(alloc, waiting)?,
-            places: no_places(alloc, waiting.count_series())?,
+            counts: waiting.counts(alloc)?,
+            places: Vec::from_elem(alloc, None, waiting.count_series())?,
             held: Vec::new(alloc),
         })
     }
 
-    /// Whether the series at this place has so many records that a handle is worth while.
-    pub(crate) fn has_many(&self, series: usize) -> bool {
+    /// Whether the series at this place, with this many attributes, has so many records that a handle is worth while.
+    pub(crate) fn has_many(&self, series: usize, attributes: usize) -> bool {
         match self.counts.get(series) {
-            Some(count) => *count >= MANY,
+            Some(count) => attributes > 0 && *count >= MANY,
             None => false,
         }
     }

@@ -7,6 +7,7 @@ ghost use Rattle.opentelemetry_sdk.specs.Waiting.{lent_record};
 
 use crate::calls::Call;
 use crate::calls::record_attributes::RecordAttributes;
+use otel_aggregate::value_map::hashed_key::OwnedSet;
 use otel_aggregate::values::bits_of;
 use otel_common::attributes::KeyValue;
 use otel_data::numbers::NumberValue;
@@ -88,6 +89,6 @@ pub(crate) enum WaitingRecord {
 pub(crate) struct ListedRecord<'a> {
     pub(crate) place: usize,
     pub(crate) instrument: usize,
-    pub(crate) attributes: &'a [KeyValue],
+    pub(crate) attributes: &'a OwnedSet,
     pub(crate) value: NumberValue,
 }

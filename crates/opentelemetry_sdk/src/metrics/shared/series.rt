@@ -6,15 +6,16 @@ ghost use Rattle.std.specs.Hash.{same_Alike};
 ghost use Rattle.opentelemetry_sdk.specs.Series.{series, series_eq, series_eq-Decides, series_writes};
 
 use indexmap::Equivalent;
+use otel_aggregate::value_map::hashed_key::OwnedSet;
 use otel_common::attributes::KeyValue;
-use otel_common::lists::SharedItems;
 use std::hash::{Hash, Hasher};
 use std::marker::Model;
 
-/// What records have in common that differ in their values alone: an instrument, and a list of attributes as given.
+/// What records have in common that differ in their values alone: an instrument, and a list of attributes as given, with
+/// the hash by which streams look it up.
 pub struct Series {
     pub(crate) instrument: usize,
-    pub(crate) attributes: SharedItems<KeyValue>,
+    pub(crate) attributes: OwnedSet,
 }
 
 impl Drop for Series {
@@ -33,7 +34,7 @@ impl PartialEq for Series {
     ghost laws = { partial_equiv_from_equiv (decided series_eq series_eq-Decides) };
 
     fn eq(&self, other: &Series) -> bool {
-        self.instrument == other.instrument && self.attributes == other.attributes
+        self.instrument == other.instrument && self.attributes.is_same(&other.attributes)
     }
 }
 

@@ -8,6 +8,7 @@ ghost use Rattle.opentelemetry_sdk.specs.declared.metrics.shared.series.Series.{
 use crate::calls::record_attributes::{RecordAttributes, SharedAttributes};
 use crate::metrics::shared::series::{Series, SeriesQuery};
 use indexmap::IndexMap;
+use otel_aggregate::value_map::hashed_key::OwnedSet;
 use otel_aggregate::value_map::hashing::SetHashBuilder;
 use otel_common::attributes::KeyValue;
 use otel_common::faults::Fault;
@@ -122,6 +123,7 @@ impl SeriesTable {
     {
         let place = self.series.len();
         let (attributes, shared) = SharedAttributes::new(attributes)?;
+        let attributes = OwnedSet::new(*self.series.hasher(), attributes);
         match self.series.insert(
             Series {
                 instrument,

@@ -10,7 +10,7 @@ use otel_aggregate::value_map::hashing::SetHashBuilder;
 use otel_common::attributes::KeyValue;
 use otel_common::faults::Fault;
 use otel_data::numbers::NumberValue;
-use std::alloc::Global;
+use std::alloc::{AllocError, Global};
 use std::marker::Model;
 
 /// How many series a worker knows at most before it forgets them all: it does so once no record waits, before it adds
@@ -135,6 +135,20 @@ impl Waiting {
         self.table.len()
     }
 
+    /// How many records of each series wait, by the places of the series.
+    pub(crate) fn counts(&self, alloc: Global) -> Result<Vec<u32>, AllocError> {
+        let mut counts = Vec::from_elem(alloc, 0, self.table.len())?;
+        for record in &self.records[self.made..] {
+            if let WaitingRecord::Plain { place, .. } = *record {
+                if let Some(count) = counts.get_mut(place) {
+                    let more: u32 = *count;
+                    *count = more.saturating_add(1);
+                }
+            }
+        }
+        Ok(counts)
+    }
+
     /// The record with this number among those that wait, if there is one and it is of a series.
     #[inline(always)]
     pub(crate) fn listed(&self, number: usize) -> Option<ListedRecord<'_>>
@@ -149,7 +163,7 @@ impl Waiting {
         Some(ListedRecord {
             place,
             instrument: series.instrument,
-            attributes: series.attributes.as_slice(),
+            attributes: &series.attributes,
             value,
         })
     }

@@ -9,5 +9,5 @@ use Rattle.opentelemetry_sdk.proofs.pipeline.Pipeline.record_each.Goals as goal
 pub returns-clause-ok : goal.returns-clause-ok
 returns-clause-ok c =
     c.commit.ensures
-    ∙ (recorded-sent 0 c.args.instrument c.args.value c.given_to-given.result c.prepare.new.self c.in_ok-prepare.ensures.prepared (subst (FeedsType c.args.instrument (is_signed_value c.args.value)) (sym c.prepare.ensures.same) c.requires)
-    ∙ λ i. part_after_call 0 (model.Call.Record c.args.instrument (number_of c.args.value) (c.given_to-given.ensures i)) (c.prepare.ensures.same i))
+    ∙ (recorded-sent 0 c.args.instrument c.args.value c.hashed_for-given.result c.prepare.new.self c.in_ok-prepare.ensures.prepared (subst (FeedsType c.args.instrument (is_signed_value c.args.value)) (sym c.prepare.ensures.same) c.requires)
+    ∙ λ i. part_after_call 0 (model.Call.Record c.args.instrument (number_of c.args.value) (c.hashed_for-given.ensures i)) (c.prepare.ensures.same i))

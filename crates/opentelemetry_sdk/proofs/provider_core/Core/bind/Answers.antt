@@ -1,6 +1,7 @@
 use Rattle.std.proofs.Common.{◌≡◌, ◌∙◌, ◌++◌, ◌∷◌, [], rules, refl, ap, sym, subst, List, map, slice_get, None, arith, nat_eq}
 use Rattle.std.specs.List.{AllByRecursion as EachOf}
 use Rattle.std.specs.Map.{lookup}
+use Rattle.otel_common.specs.declared.attributes.KeyValue.{KeyValue}
 use Rattle.otel_model.specs.Calls as model
 use Rattle.otel_model.specs.Machine.{part_after_call}
 use Rattle.otel_model.specs.Refusals.{bind_refusal}
@@ -75,7 +76,7 @@ added : (c : After-add-place) → c.add-place.new.links.entries ≡ c.self.insid
 added c = c.add-place.ensures.links ∙ ap (λ (live : List LiveHandle). live ++ (c.self.inside.next, c.args.instrument) ∷ []) c.make_room.ensures.links
 
 sent : (c : After-add-place) → map part_of c.bind_or_none.new.pipelines ≡ map (part_after_call c.self.inside.next (model.Call.Bind c.args.instrument c.args.attributes.now)) (map part_of c.self.inside.pipelines.items)
-sent c = c.in_ok-stream_place.ensures.ok ∙ ap (λ ps. map (part_after_call c.self.inside.next (model.Call.Bind c.args.instrument c.args.attributes.now)) (map part_of ps)) c.deref_mut.ensures.value
+sent c = c.in_ok-stream_place.ensures.ok ∙ ap (λ (given : List KeyValue). map (part_after_call c.self.inside.next (model.Call.Bind c.args.instrument given)) (map part_of c.deref_mut.result.now)) c.new-given.ensures ∙ ap (λ ps. map (part_after_call c.self.inside.next (model.Call.Bind c.args.instrument c.args.attributes.now)) (map part_of ps)) c.deref_mut.ensures.value
 
 pub invariant_of-self-2 : goal.invariant_of-self-2
 invariant_of-self-2 c =

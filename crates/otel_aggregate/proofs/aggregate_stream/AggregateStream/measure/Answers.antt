@@ -20,7 +20,7 @@ pub invariant_of-self : goal.invariant_of-self
 invariant_of-self c =
     let was = c.self.inside.map in
     let l = c.args.attributes.now in
-    let now = c.measure-measured in
+    let now = c.measure_given-measured in
     let links : List Link = c.self.inside.live.entries in
     let named = c.law_of_numbers.ensures.named in
     let still : AllByRecursion (IsLinkedStill was.numbers now.new.self.numbers) links = still-kept was.numbers now.new.self.numbers now.ensures.numbers links c.self.invariant.0 in
@@ -40,7 +40,7 @@ invariant_of-self c =
 pub returns-clause-taken : goal.returns-clause-taken
 returns-clause-taken c =
     let was = c.self.inside.map in
-    let now = c.measure-measured in
+    let now = c.measure_given-measured in
     let links : List Link = c.self.inside.live.entries in
     let old : AggregateContents = c.args.self.now in
     let v = amount_of c.args.value in
@@ -57,7 +57,7 @@ returns-clause-taken c =
 pub returns-clause-refused : goal.returns-clause-refused
 returns-clause-refused c =
     let was = c.self.inside.map in
-    let now = c.measure-measured in
+    let now = c.measure_given-measured in
     let links : List Link = c.self.inside.live.entries in
     elim c.match-measured.branch [
       | in-Ok w ↦ rw w.result-is tt

@@ -1,5 +1,6 @@
 use Rattle.std.proofs.Common.{◌≡◌, ◌∙◌, ◌+◌, ◌++◌, ◌∷◌, [], ℕ, List, map, sym, ap, subst}
 use Rattle.std.specs.List.{AllByRecursion as EachOf}
+use Rattle.otel_common.specs.declared.attributes.KeyValue.{KeyValue}
 use Rattle.otel_model.specs.Calls.{Bind, RecordBound}
 use Rattle.otel_model.specs.Machine.{part_after_call}
 use Rattle.otel_model.specs.State.{ReaderPart}
@@ -20,18 +21,18 @@ bind_or_none-requires-clause-new c =
 pub record_held-requires-clause-typed : goal.record_held-requires-clause-typed
 record_held-requires-clause-typed c =
     subst (FeedType c.args.listed.instrument (number_of c.args.listed.value)) (sym c.in-Ok-bind_or_none.ensures.ok)
-    (typed-after c.args.listed.instrument c.args.handle (number_of c.args.listed.value) (Bind c.args.listed.instrument c.args.listed.attributes.now) (map part_of c.args.pipelines.now) c.requires.typed)
+    (typed-after c.args.listed.instrument c.args.handle (number_of c.args.listed.value) (Bind c.args.listed.instrument c.given-given.result) (map part_of c.args.pipelines.now) c.requires.typed)
 
 pub record_held-requires-clause-synchronous : goal.record_held-requires-clause-synchronous
 record_held-requires-clause-synchronous c =
     subst (EachOf (FeedsSynchronous c.args.listed.instrument)) (sym c.in-Ok-bind_or_none.ensures.ok)
-    (synchronous-after c.args.listed.instrument c.args.handle (Bind c.args.listed.instrument c.args.listed.attributes.now) (map part_of c.args.pipelines.now) c.requires.synchronous)
+    (synchronous-after c.args.listed.instrument c.args.handle (Bind c.args.listed.instrument c.given-given.result) (map part_of c.args.pipelines.now) c.requires.synchronous)
 
 pub record_held-requires-clause-held : goal.record_held-requires-clause-held
 record_held-requires-clause-held c =
     let h = c.requires.holding in
     subst (EachOf (IsHeldByFed c.args.listed.instrument c.args.handle)) (sym c.in-Ok-bind_or_none.ensures.ok)
-    (bound-fed c.args.handle c.args.listed.instrument c.args.listed.attributes.now (map part_of c.args.pipelines.now)
+    (bound-fed c.args.handle c.args.listed.instrument c.given-given.result (map part_of c.args.pipelines.now)
     (subst (λ k. EachOf (IsNewAt k) (map part_of c.args.pipelines.now)) (sym h.3)
     (holding-new h.0 h.1 c.args.holdings.now h.2 (map part_of c.args.pipelines.now) c.args.listed.place h.4.0 c.requires.new h.5)))
 
@@ -42,7 +43,7 @@ returns-in-Ok-bind_or_none-clause-made c = λ first e ss ps at is.
     let v = number_of c.args.listed.value in
     let l = c.args.listed.attributes.now in
     let parts : map part_of c.record_held.new.pipelines ≡ map (part_after_call 0 (RecordBound (first + c.args.listed.place) v)) (map (part_after_call (first + c.args.listed.place) (Bind n l)) qs) =
-    c.record_held.ensures ∙ (ap (map (part_after_call 0 (RecordBound c.args.handle v))) c.in-Ok-bind_or_none.ensures.ok ∙ ap (λ k. map (part_after_call 0 (RecordBound k v)) (map (part_after_call k (Bind n l)) qs)) e) in
+    c.record_held.ensures ∙ (ap (map (part_after_call 0 (RecordBound c.args.handle v))) (c.in-Ok-bind_or_none.ensures.ok ∙ ap (λ (given : List KeyValue). map (part_after_call c.args.handle (Bind n given)) qs) c.given-given.ensures) ∙ ap (λ k. map (part_after_call 0 (RecordBound k v)) (map (part_after_call k (Bind n l)) qs)) e) in
     let held : c.set_place.new.self ≡ c.args.holdings.now ++ c.args.listed.place ∷ [] = c.set_place.ensures ∙ c.in-Ok.ensures.held in
     subst (λ (x : List ℕ × List ReaderPart). IsHolding first ss x.0 (map (part_after_call 0 (call_listed c.args.listed)) ps) x.1) (λ i. (sym held i, sym parts i))
     (holding-first first ss c.args.holdings.now ps qs is c.args.listed at c.requires.new c.requires.synchronous)

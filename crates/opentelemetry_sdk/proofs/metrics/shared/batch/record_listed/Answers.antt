@@ -1,7 +1,10 @@
-use Rattle.std.proofs.Common.{◌+◌, map, sym, subst, refl}
+use Rattle.std.proofs.Common.{◌+◌, ◌∙◌, List, ap, map, sym, subst, refl}
 use Rattle.std.specs.List.{AllByRecursion as EachOf}
+use Rattle.otel_common.specs.declared.attributes.KeyValue.{KeyValue}
+use Rattle.otel_model.specs.Calls.{Record}
 use Rattle.otel_model.specs.Machine.{part_after_call}
 use Rattle.opentelemetry_sdk.specs.Batches.{IsHolding, call_listed}
+use Rattle.opentelemetry_sdk.specs.Correspondence.{number_of}
 use Rattle.opentelemetry_sdk.specs.pipeline.Handles.{IsHeldByFed}
 use Rattle.opentelemetry_sdk.specs.pipeline.Pipelines.{part_of}
 use Rattle.opentelemetry_sdk.specs.declared.metrics.shared.series.Series.{Series}
@@ -24,5 +27,5 @@ returns-then-has_many-clause-made c = IfSome-weaker c.record_first.result (λ x 
 
 pub returns-in-Ok-clause-made : goal.returns-in-Ok-clause-made
 returns-in-Ok-clause-made c = λ ss ps at is.
-    subst (IsHolding c.args.first ss c.args.holdings.now (map (part_after_call 0 (call_listed c.args.listed)) ps)) (sym c.in-Ok.ensures.ok)
+    subst (IsHolding c.args.first ss c.args.holdings.now (map (part_after_call 0 (call_listed c.args.listed)) ps)) (sym (c.in-Ok.ensures.ok ∙ ap (λ (given : List KeyValue). map (part_after_call 0 (Record c.args.listed.instrument (number_of c.args.listed.value) given)) (map part_of c.args.pipelines.now)) c.given-given.ensures))
     (holding-other c.args.first ss c.args.holdings.now ps (map part_of c.args.pipelines.now) is c.args.listed)

@@ -7,22 +7,22 @@ use Rattle.opentelemetry_sdk.proofs.pipeline.metric_stream.MetricStream.observe.
 
 pub exchange-requires : goal.exchange-requires
 exchange-requires c =
-    let rest = drafted-rest c.args.observation.now.value c.as_slice.result.now c.record-observed.result c.args.draft.now c.args.self.now c.enter_draft.new.self c.record-observed.new.self c.enter_draft.ensures.stream c.record-observed.ensures.ok c.record-observed.ensures.err in
+    let rest = drafted-rest c.args.observation.now.value c.new-attributes.result c.record-observed.result c.args.draft.now c.args.self.now c.enter_draft.new.self c.record-observed.new.self c.enter_draft.ensures.stream c.record-observed.ensures.ok c.record-observed.ensures.err in
     fits-kept c.enter_draft.new.draft c.args.self.now c.record-observed.new.self c.in_ok-enter_draft.ensures.draft rest c.requires.observable
 
 pub returns-in_err-observed-clause-same : goal.returns-in_err-observed-clause-same
 returns-in_err-observed-clause-same c =
-    let rest = drafted-rest c.args.observation.now.value c.as_slice.result.now c.record-observed.result c.args.draft.now c.args.self.now c.enter_draft.new.self c.record-observed.new.self c.enter_draft.ensures.stream c.record-observed.ensures.ok c.record-observed.ensures.err in
+    let rest = drafted-rest c.args.observation.now.value c.new-attributes.result c.record-observed.result c.args.draft.now c.args.self.now c.enter_draft.new.self c.record-observed.new.self c.enter_draft.ensures.stream c.record-observed.ensures.ok c.record-observed.ensures.err in
     c.exchange.ensures.stream ∙ ap (λ q. drafted q c.record-observed.new.self) c.in_ok-enter_draft.ensures.draft ∙ rest
 
 pub returns-clause-same : goal.returns-clause-same
 returns-clause-same c =
-    let rest = drafted-rest c.args.observation.now.value c.as_slice.result.now c.record-observed.result c.args.draft.now c.args.self.now c.enter_draft.new.self c.record-observed.new.self c.enter_draft.ensures.stream c.record-observed.ensures.ok c.record-observed.ensures.err in
+    let rest = drafted-rest c.args.observation.now.value c.new-attributes.result c.record-observed.result c.args.draft.now c.args.self.now c.enter_draft.new.self c.record-observed.new.self c.enter_draft.ensures.stream c.record-observed.ensures.ok c.record-observed.ensures.err in
     c.exchange.ensures.stream ∙ ap (λ q. drafted q c.record-observed.new.self) c.in_ok-enter_draft.ensures.draft ∙ rest
 
 pub returns-clause-fits : goal.returns-clause-fits
 returns-clause-fits c =
-    let rest = drafted-rest c.args.observation.now.value c.as_slice.result.now c.record-observed.result c.args.draft.now c.args.self.now c.enter_draft.new.self c.record-observed.new.self c.enter_draft.ensures.stream c.record-observed.ensures.ok c.record-observed.ensures.err in
+    let rest = drafted-rest c.args.observation.now.value c.new-attributes.result c.record-observed.result c.args.draft.now c.args.self.now c.enter_draft.new.self c.record-observed.new.self c.enter_draft.ensures.stream c.record-observed.ensures.ok c.record-observed.ensures.err in
     fits-back c.enter_draft.new.draft c.exchange.new.draft c.record-observed.new.self c.exchange.new.self c.exchange.ensures.draft c.exchange.ensures.stream
     (fits-kept c.enter_draft.new.draft c.args.self.now c.record-observed.new.self c.in_ok-enter_draft.ensures.draft rest c.requires.observable)
 
@@ -31,6 +31,6 @@ returns-clause-observed c =
     let value = c.args.observation.now.value in
     let l = c.args.observation.now.attributes in
     drafted-back c.enter_draft.new.draft c.exchange.new.draft c.record-observed.new.self c.exchange.new.self c.exchange.ensures.draft c.exchange.ensures.stream
-    ∙ ap without_pending (c.in_ok-observed.ensures.ok ∙ ap (λ (a : List KeyValue). contents_after_record value a c.enter_draft.new.self) c.as_slice.ensures)
+    ∙ ap without_pending (c.in_ok-observed.ensures.ok ∙ ap (λ (a : List KeyValue). contents_after_record value a c.enter_draft.new.self) (c.new-attributes.ensures ∙ c.as_slice.ensures))
     ∙ observed-settled value l c.enter_draft.new.self
     ∙ ap (contents_after_record value l) c.enter_draft.ensures.stream

@@ -13,12 +13,12 @@ use Rattle.opentelemetry_sdk.proofs.metrics.shared.series_table.SeriesTable.add.
 -- the series goes to the end
 pushed : (c : goal.Joined-insert-2) → c.insert.new.self.entries ≡ c.self.inside.series.entries ++ (series c.args.instrument c.args.attributes.items, c.in_ok-attributes.shared) ∷ []
 pushed c =
-    let is = c.in_ok-attributes.ensures.list.0 in
+    let is = c.new-attributes.ensures ∙ c.in_ok-attributes.ensures.list.0 in
     let none : position (series_eq (series c.args.instrument c.args.attributes.items)) (map (λ e. e.0) c.self.inside.series.entries) ≡ None =
     ap (λ (t : Numbered). position (series_eq (series c.args.instrument c.args.attributes.items)) t.series) c.self.view_is ∙ c.requires in
-    let here : lookup (series_eq (series c.args.instrument c.in_ok-attributes.attributes)) c.self.inside.series.entries ≡ None =
+    let here : lookup (series_eq (series c.args.instrument c.new-attributes.result)) c.self.inside.series.entries ≡ None =
     subst (λ (l : List KeyValue). lookup (series_eq (series c.args.instrument l)) c.self.inside.series.entries ≡ None) (sym is) (absent (series_eq (series c.args.instrument c.args.attributes.items)) c.self.inside.series.entries none) in
-    let new = insert_entry-new series_eq c.self.inside.series (series c.args.instrument c.in_ok-attributes.attributes) c.in_ok-attributes.shared here in
+    let new = insert_entry-new series_eq c.self.inside.series (series c.args.instrument c.new-attributes.result) c.in_ok-attributes.shared here in
     subst (λ (l : List KeyValue). c.insert.new.self.entries ≡ c.self.inside.series.entries ++ (series c.args.instrument l, c.in_ok-attributes.shared) ∷ []) is (c.in-Ok.ensures.entries ∙ new)
 
 pub invariant_of-self : goal.invariant_of-self
