@@ -35,6 +35,10 @@ values_of w = w.values.amount
 abbrev pub worker_identity : {C S : Type 0} {c : account.Ghosts C} {s : account.Ghosts S} → Worker C S c s → ℕ
 worker_identity w = w.identity
 
+-- how many workers the provider opened before it; names of its series have this number too
+abbrev pub worker_number : {C S : Type 0} {c : account.Ghosts C} {s : account.Ghosts S} → Worker C S c s → ℕ
+worker_number w = w.number
+
 -- the series that it knows by such a name
 abbrev pub series_named : {C S T : Type 0} {c : account.Ghosts C} {s : account.Ghosts S} → WorkerSeries T → Worker C S c s → Option Series
-series_named n w = cond (n.identity == w.identity && n.worker == w.number) (series_placed n.emptied n.place w.waiting) None
+series_named n w = cond (n.identity == worker_identity w && n.worker == worker_number w) (series_placed n.emptied n.place w.waiting) None

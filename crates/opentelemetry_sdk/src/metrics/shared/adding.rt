@@ -6,7 +6,7 @@ ghost use Rattle.opentelemetry_sdk.specs.Typed.{instrument_number, instrument_id
 ghost use Rattle.opentelemetry_sdk.specs.Pending.{call_in};
 ghost use Rattle.opentelemetry_sdk.specs.Series.{series};
 ghost use Rattle.opentelemetry_sdk.specs.Waiting.{KeepsSeries};
-ghost use Rattle.opentelemetry_sdk.specs.Workers.{pending_of, records_of, values_of, worker_identity, room_of, series_named, series_of, waits_of};
+ghost use Rattle.opentelemetry_sdk.specs.Workers.{pending_of, records_of, values_of, worker_identity, worker_number, room_of, series_named, series_of, waits_of};
 ghost use Rattle.opentelemetry_sdk.specs.declared.metrics.shared.worker.WorkerSeries.{WorkerSeries};
 
 use crate::calls::Call;
@@ -40,6 +40,7 @@ impl<C: Account, S: Account> Worker<C, S> {
         ensures unadded { OnErr result (pending_of self.new ≡ pending_of self.old) }
         ensures only_memory { IsOkUnless result Fault.OutOfMemory }
         ensures kept { (records_of self.new ≡ records_of self.old) × (values_of self.new ≡ values_of self.old) × (worker_identity self.new ≡ worker_identity self.old) }
+        ensures names { worker_number self.new ≡ worker_number self.old }
         ensures known { Contains (series_of self.old) (series instrument attributes.items) → 0 < room_of self.old → IsOk result }
         ensures learnt { OnOk result (Contains (series_of self.new) (series instrument attributes.items)) }
         ensures room { room_of self.old ≤ room_of self.new + 1 }
@@ -54,6 +55,7 @@ impl<C: Account, S: Account> Worker<C, S> {
         ensures unadded { OnErr result (pending_of self.new ≡ pending_of self.old) }
         ensures only_memory { IsOkUnless result Fault.OutOfMemory }
         ensures kept { (records_of self.new ≡ records_of self.old) × (values_of self.new ≡ values_of self.old) × (worker_identity self.new ≡ worker_identity self.old) }
+        ensures names { worker_number self.new ≡ worker_number self.old }
         ensures known { 0 < room_of self.old → IsOk result }
         ensures room { room_of self.old ≤ room_of self.new + 1 }
         ensures series { KeepsSeries (waits_of self.old) (waits_of self.new) }
@@ -69,6 +71,7 @@ impl<C: Account, S: Account> Worker<C, S> {
         ensures series { series_of self.new ≡ series_of self.old }
         ensures only_memory { IsOkUnless result Fault.OutOfMemory }
         ensures kept { (records_of self.new ≡ records_of self.old) × (values_of self.new ≡ values_of self.old) × (worker_identity self.new ≡ worker_identity self.old) }
+        ensures names { worker_number self.new ≡ worker_number self.old }
     {
         self.waiting.reserve(additional)
     }
@@ -95,6 +98,7 @@ impl<C: Account, S: Account> Worker<C, S> {
         ensures foreign { ¬ (instrument_identity counter.now ≡ worker_identity self.old) → result ≡ Err Fault.UnknownInstrument }
         ensures own { instrument_identity counter.now ≡ worker_identity self.old → IsOkUnless result Fault.OutOfMemory }
         ensures kept { (records_of self.new ≡ records_of self.old) × (values_of self.new ≡ values_of self.old) × (worker_identity self.new ≡ worker_identity self.old) }
+        ensures names { worker_number self.new ≡ worker_number self.old }
         ensures known { instrument_identity counter.now ≡ worker_identity self.old → Contains (series_of self.old) (series (instrument_number counter.now) attributes.now) → 0 < room_of self.old → IsOk result }
         ensures learnt { OnOk result (Contains (series_of self.new) (series (instrument_number counter.now) attributes.now)) }
         ensures room { room_of self.old ≤ room_of self.new + 1 }
@@ -119,6 +123,7 @@ impl<C: Account, S: Account> Worker<C, S> {
         ensures foreign { ¬ (instrument_identity instrument.now ≡ worker_identity self.old) → result ≡ Err Fault.UnknownInstrument }
         ensures own { instrument_identity instrument.now ≡ worker_identity self.old → IsOkUnless result Fault.OutOfMemory }
         ensures kept { (records_of self.new ≡ records_of self.old) × (values_of self.new ≡ values_of self.old) × (worker_identity self.new ≡ worker_identity self.old) }
+        ensures names { worker_number self.new ≡ worker_number self.old }
         ensures known { instrument_identity instrument.now ≡ worker_identity self.old → Contains (series_of self.old) (series (instrument_number instrument.now) attributes.now) → 0 < room_of self.old → IsOk result }
         ensures learnt { OnOk result (Contains (series_of self.new) (series (instrument_number instrument.now) attributes.now)) }
         ensures room { room_of self.old ≤ room_of self.new + 1 }
@@ -142,6 +147,7 @@ impl<C: Account, S: Account> Worker<C, S> {
         ensures foreign { ¬ (handle_identity handle.now ≡ worker_identity self.old) → result ≡ Err Fault.UnknownHandle }
         ensures own { handle_identity handle.now ≡ worker_identity self.old → IsOkUnless result Fault.OutOfMemory }
         ensures kept { (records_of self.new ≡ records_of self.old) × (values_of self.new ≡ values_of self.old) × (worker_identity self.new ≡ worker_identity self.old) }
+        ensures names { worker_number self.new ≡ worker_number self.old }
         ensures known { handle_identity handle.now ≡ worker_identity self.old → 0 < room_of self.old → IsOk result }
         ensures room { room_of self.old ≤ room_of self.new + 1 }
         ensures series { KeepsSeries (waits_of self.old) (waits_of self.new) }
@@ -170,6 +176,7 @@ impl<C: Account, S: Account> Worker<C, S> {
         ensures known { instrument_identity instrument.now ≡ worker_identity self.old → Contains (series_of self.old) (series (instrument_number instrument.now) attributes.now) → IsOk result }
         ensures pending { pending_of self.new ≡ pending_of self.old }
         ensures kept { (records_of self.new ≡ records_of self.old) × (values_of self.new ≡ values_of self.old) × (worker_identity self.new ≡ worker_identity self.old) }
+        ensures names { worker_number self.new ≡ worker_number self.old }
         ensures room { room_of self.old ≤ room_of self.new }
         ensures series { KeepsSeries (waits_of self.old) (waits_of self.new) }
     {
@@ -242,6 +249,7 @@ impl<C: Account, S: Account> Worker<C, S> {
         ensures rest { pending_of self.new ≡ drop 1 (pending_of self.old) }
         ensures none { IfNone result (pending_of self.old ≡ []) }
         ensures kept { (records_of self.new ≡ records_of self.old) × (values_of self.new ≡ values_of self.old) × (worker_identity self.new ≡ worker_identity self.old) }
+        ensures names { worker_number self.new ≡ worker_number self.old }
         ensures series { series_of self.new ≡ series_of self.old }
         ensures room { room_of self.old ≤ room_of self.new }
     {

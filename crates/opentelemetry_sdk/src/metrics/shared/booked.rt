@@ -14,7 +14,7 @@ ghost use Rattle.otel_model.specs.Books.{count_in, sum_in};
 ghost use Rattle.otel_model.specs.Lawful.{Balances};
 ghost use Rattle.opentelemetry_sdk.specs.Pending.{call_in, bits_in, is_record, IsDone, IsRefused, IsKnownFirst, Makes, StopsBy, Submits};
 ghost use Rattle.opentelemetry_sdk.specs.Waiting.{lent_record, StaysListed};
-ghost use Rattle.opentelemetry_sdk.specs.Workers.{waits_of, pending_of, records_of, values_of, worker_identity};
+ghost use Rattle.opentelemetry_sdk.specs.Workers.{waits_of, pending_of, records_of, values_of, worker_identity, worker_number};
 ghost use Rattle.otel_stream.specs.Requests.{wanted_by};
 
 use crate::calls::{Call, Reply};
@@ -119,6 +119,7 @@ fn enter<C: Account, S: Account>(
     ensures book { (records.new.total ≡ records.old.total + 1) × (values.new.total ≡ values.old.total + value) }
     ensures share { (records_of worker.new ≡ records_of worker.old + 1) × (values_of worker.new ≡ values_of worker.old + value) }
     ensures kept { (waits_of worker.new ≡ waits_of worker.old) × (worker_identity worker.new ≡ worker_identity worker.old) }
+    ensures names { worker_number worker.new ≡ worker_number worker.old }
 {
     // (the share is at most the book, so it has room for one more)
     records.audit(&mut worker.records);
@@ -140,6 +141,7 @@ fn enter_each<C: Account, S: Account>(
     ensures book { (records.new.total ≡ records.old.total + made) × (values.new.total ≡ values.old.total + sum_by bits_in (take made (pending_of worker.old))) }
     ensures share { (records_of worker.new ≡ records_of worker.old + made) × (values_of worker.new ≡ values_of worker.old + sum_by bits_in (take made (pending_of worker.old))) }
     ensures kept { worker_identity worker.new ≡ worker_identity worker.old }
+    ensures names { worker_number worker.new ≡ worker_number worker.old }
     ensures series { StaysListed (waits_of worker.old) (waits_of worker.new) }
 {
     for _ in 0..made {
@@ -279,6 +281,7 @@ impl<C: Account, S: Account> Booked<C, S> {
         ensures seeded { self.new.core.hash_seed ≡ self.old.core.hash_seed }
         ensures known { IfErr result (λ f. IsKnownFirst self.new.core.state (pending_of worker.new) → IsNamed f) }
         ensures kept { (self.new.opened ≡ self.old.opened) × (worker_identity worker.new ≡ worker_identity worker.old) }
+        ensures names { worker_number worker.new ≡ worker_number worker.old }
         ensures series { StaysListed (waits_of worker.old) (waits_of worker.new) }
     {
         self.make_waiting(worker);
@@ -296,6 +299,7 @@ impl<C: Account, S: Account> Booked<C, S> {
         ensures book { (self.new.records.total + records_of worker.old ≡ self.old.records.total + records_of worker.new) × (self.new.values.total + values_of worker.old ≡ self.old.values.total + values_of worker.new) }
         ensures seeded { self.new.core.hash_seed ≡ self.old.core.hash_seed }
         ensures kept { (self.new.opened ≡ self.old.opened) × (worker_identity worker.new ≡ worker_identity worker.old) }
+        ensures names { worker_number worker.new ≡ worker_number worker.old }
         ensures series { StaysListed (waits_of worker.old) (waits_of worker.new) }
     {
         let room = u64::MAX - self.accepted;
@@ -316,6 +320,7 @@ impl<C: Account, S: Account> Booked<C, S> {
         ensures known { IfErr result (λ f. IsKnownFirst self.new.core.state (pending_of worker.new) → IsNamed f) }
         ensures book { (self.new.records.total + records_of worker.old ≡ self.old.records.total + records_of worker.new) × (self.new.values.total + values_of worker.old ≡ self.old.values.total + values_of worker.new) }
         ensures kept { (self.new.opened ≡ self.old.opened) × (worker_identity worker.new ≡ worker_identity worker.old) }
+        ensures names { worker_number worker.new ≡ worker_number worker.old }
         ensures series { StaysListed (waits_of worker.old) (waits_of worker.new) }
     {
         let Some(first) = worker.waiting.first() else {
@@ -347,6 +352,7 @@ impl<C: Account, S: Account> Booked<C, S> {
         ensures seeded { self.new.core.hash_seed ≡ self.old.core.hash_seed }
         ensures book { (self.new.records.total + records_of worker.old ≡ self.old.records.total + records_of worker.new) × (self.new.values.total + values_of worker.old ≡ self.old.values.total + values_of worker.new) }
         ensures kept { (self.new.opened ≡ self.old.opened) × (worker_identity worker.new ≡ worker_identity worker.old) }
+        ensures names { worker_number worker.new ≡ worker_number worker.old }
         ensures series { waits_of worker.new ≡ waits_of worker.old }
     {
         if worker.waiting.len() > 0 {

@@ -20,7 +20,7 @@ ghost use Rattle.opentelemetry_sdk.specs.Typed.{collect_reply, instrument_number
 ghost use Rattle.opentelemetry_sdk.specs.Pending.{call_in, bits_in, is_record, IsDone, IsKnownFirst, StopsBy, Submits};
 ghost use Rattle.opentelemetry_sdk.specs.Shared.{state_in, hash_seed_in, views_in, readers_in, callbacks_in, records_in, values_in, workers_in};
 ghost use Rattle.opentelemetry_sdk.specs.Waiting.{StaysListed};
-ghost use Rattle.opentelemetry_sdk.specs.Workers.{waits_of, pending_of, records_of, values_of, worker_identity};
+ghost use Rattle.opentelemetry_sdk.specs.Workers.{waits_of, pending_of, records_of, values_of, worker_identity, worker_number};
 ghost use Rattle.otel_stream.specs.Requests.{wanted_by};
 
 use crate::calls::{Call, Reply};
@@ -207,6 +207,7 @@ impl<P: Parts, C: Account, S: Account> Locked<P, C, S> {
         ensures balances { Balances (state_in self.new) }
         ensures seeded { hash_seed_in self.new ≡ hash_seed_in self.old }
         ensures worker { worker_identity worker.new ≡ worker_identity worker.old }
+        ensures names { worker_number worker.new ≡ worker_number worker.old }
         ensures series { StaysListed (waits_of worker.old) (waits_of worker.new) }
         ensures workers { workers_in self.new ≡ workers_in self.old }
         ensures kept { readers_in self.new ≡ readers_in self.old }
@@ -240,6 +241,7 @@ impl<P: Parts, C: Account, S: Account> Locked<P, C, S> {
         ensures balances { Balances (state_in self.new) }
         ensures seeded { hash_seed_in self.new ≡ hash_seed_in self.old }
         ensures worker { (worker_identity worker.new ≡ worker_identity worker.old) × (waits_of worker.new ≡ waits_of worker.old) }
+        ensures names { worker_number worker.new ≡ worker_number worker.old }
         ensures workers { workers_in self.new ≡ workers_in self.old }
         ensures kept { readers_in self.new ≡ readers_in self.old }
         ensures views { views_in self.new ≡ views_in self.old }
@@ -276,6 +278,7 @@ impl<P: Parts, C: Account, S: Account> Locked<P, C, S> {
         ensures balances { Balances (state_in self.new) }
         ensures seeded { hash_seed_in self.new ≡ hash_seed_in self.old }
         ensures worker { (worker_identity worker.new ≡ worker_identity worker.old) × (waits_of worker.new ≡ waits_of worker.old) }
+        ensures names { worker_number worker.new ≡ worker_number worker.old }
         ensures workers { workers_in self.new ≡ workers_in self.old }
         ensures kept { readers_in self.new ≡ readers_in self.old }
         ensures views { views_in self.new ≡ views_in self.old }

@@ -38,6 +38,7 @@ loop-preserved g c =
       share_records = omega (arith, c.enter.ensures.share.0, so_far.share_records);
       share_values = omega (arith, c.enter.ensures.share.1, so_far.share_values, c.bits-value.ensures, taken, sums);
       identity = kept.1 ∙ so_far.identity;
+      number = c.enter.ensures.names ∙ so_far.number;
       series = (
         ap (λ (w : Waits). w.emptied) kept.0 ∙ (c.pass_first.ensures.kept.0 ∙ so_far.series.0),
         ap (λ (w : Waits). w.series) kept.0 ∙ (c.pass_first.ensures.kept.1 ∙ so_far.series.1),

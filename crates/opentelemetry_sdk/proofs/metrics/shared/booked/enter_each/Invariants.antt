@@ -1,7 +1,7 @@
 use Rattle.std.proofs.Common.{◌≡◌, ◌+◌, take, drop, sum_by}
 use Rattle.opentelemetry_sdk.specs.Pending.{bits_in}
 use Rattle.opentelemetry_sdk.specs.Waiting.{StaysListed}
-use Rattle.opentelemetry_sdk.specs.Workers.{waits_of, pending_of, records_of, values_of, worker_identity}
+use Rattle.opentelemetry_sdk.specs.Workers.{waits_of, pending_of, records_of, values_of, worker_identity, worker_number}
 use Rattle.opentelemetry_sdk.proofs.metrics.shared.booked.enter_each.Given as goal
 
 -- the records so far are entered
@@ -13,5 +13,6 @@ invariant-loop g l = record {
   share_records : records_of l.worker ≡ records_of l.fn.worker + l.counter;
   share_values : values_of l.worker ≡ values_of l.fn.worker + sum_by bits_in (take l.counter (pending_of l.fn.worker));
   identity : worker_identity l.worker ≡ worker_identity l.fn.worker;
+  number : worker_number l.worker ≡ worker_number l.fn.worker;
   series : StaysListed (waits_of l.fn.worker) (waits_of l.worker);
 }

@@ -18,5 +18,6 @@ loop-preserved g c =
       seeded = cc;
       opened = cc;
       identity = cc;
+      number = c.make_first.ensures.names ∙ so_far.number;
       series = (c.make_first.ensures.series.0 ∙ so_far.series.0, c.make_first.ensures.series.1 ∙ so_far.series.1, c.make_first.ensures.series.2 ∙ so_far.series.2);
     }

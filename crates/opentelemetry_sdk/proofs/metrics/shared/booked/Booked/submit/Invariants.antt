@@ -1,7 +1,7 @@
 use Rattle.std.proofs.Common.{◌≡◌, ◌+◌, ◌-◌, ◌≤◌, length}
 use Rattle.opentelemetry_sdk.specs.Pending.{Submits}
 use Rattle.opentelemetry_sdk.specs.Waiting.{StaysListed}
-use Rattle.opentelemetry_sdk.specs.Workers.{waits_of, pending_of, records_of, values_of, worker_identity}
+use Rattle.opentelemetry_sdk.specs.Workers.{waits_of, pending_of, records_of, values_of, worker_identity, worker_number}
 use Rattle.opentelemetry_sdk.proofs.metrics.shared.booked.Booked.submit.Given as goal
 
 abbrev pub invariant-loop : goal.invariant-loop
@@ -14,6 +14,7 @@ invariant-loop g l = record {
   seeded : l.self.core.hash_seed ≡ l.fn.self.core.hash_seed;
   opened : l.self.opened ≡ l.fn.self.opened;
   identity : worker_identity l.worker ≡ worker_identity l.fn.worker;
+  number : worker_number l.worker ≡ worker_number l.fn.worker;
   series : StaysListed (waits_of l.fn.worker) (waits_of l.worker);
 }
 
