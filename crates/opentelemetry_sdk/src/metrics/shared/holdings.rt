@@ -9,9 +9,9 @@ use crate::metrics::shared::waiting::Waiting;
 use std::alloc::{AllocError, Global};
 use std::marker::Model;
 
-/// A series with fewer records than this is looked up for each, since a handle costs as much as three or four look-ups.
-/// One without attributes always is: that costs less than a record through a handle.
-const MANY: u32 = 4;
+/// So many attributes have to be passed over for a handle to be worth while: it saves looking at those of all records of its
+/// series but the first, and costs a thousand instructions.
+const MANY: usize = 12;
 
 /// How many records wait of each series, and for which of them a handle is held.
 pub(crate) struct Holdings {
@@ -61,7 +61,7 @@ impl Holdings {
     /// Whether the series at this place, with this many attributes, has so many records that a handle is worth while.
     pub(crate) fn has_many(&self, series: usize, attributes: usize) -> bool {
         match self.counts.get(series) {
-            Some(count) => attributes > 0 && *count >= MANY,
+            Some(count) => (*count as usize).saturating_sub(1).saturating_mul(attributes) >= MANY,
             None => false,
         }
     }

@@ -258,18 +258,18 @@ const BATCHES: &[Case] = &[
                  go\n\
                  meter m\n\
                  build 0 u64_counter c 100\n\
-                 record 0 u:1 a=i:1\n\
-                 record 0 u:10 a=i:2\n\
-                 record 0 u:2 a=i:1\n\
-                 record 0 u:20 a=i:2\n\
-                 record 0 u:3 a=i:1\n\
-                 record 0 u:30 a=i:2\n\
-                 record 0 u:4 a=i:1\n\
-                 record 0 u:40 a=i:2\n\
-                 record 0 u:5 a=i:1\n\
-                 record 0 u:50 a=i:2\n\
+                 record 0 u:1 a=i:1,c=s:x,y=b:true,z=i:9\n\
+                 record 0 u:10 a=i:2,c=s:x,y=b:true,z=i:9\n\
+                 record 0 u:2 a=i:1,c=s:x,y=b:true,z=i:9\n\
+                 record 0 u:20 a=i:2,c=s:x,y=b:true,z=i:9\n\
+                 record 0 u:3 a=i:1,c=s:x,y=b:true,z=i:9\n\
+                 record 0 u:30 a=i:2,c=s:x,y=b:true,z=i:9\n\
+                 record 0 u:4 a=i:1,c=s:x,y=b:true,z=i:9\n\
+                 record 0 u:40 a=i:2,c=s:x,y=b:true,z=i:9\n\
+                 record 0 u:5 a=i:1,c=s:x,y=b:true,z=i:9\n\
+                 record 0 u:50 a=i:2,c=s:x,y=b:true,z=i:9\n\
                  collect 0 200\n\
-                 record 0 u:100 a=i:2\n\
+                 record 0 u:100 a=i:2,c=s:x,y=b:true,z=i:9\n\
                  collect 0 300\n",
         lines: "meter 0\n\
                 instrument 0\n\
@@ -284,11 +284,11 @@ const BATCHES: &[Case] = &[
                 ok\n\
                 ok\n\
                 collected 2\n\
-                point m c sum cumulative monotonic 100 200 a=i:1 15\n\
+                point m c sum cumulative monotonic 100 200 a=i:1,c=s:x,y=b:true,z=i:9 15\n\
                 point m c sum cumulative monotonic 100 200 otel.metric.overflow=b:true 150\n\
                 ok\n\
                 collected 2\n\
-                point m c sum cumulative monotonic 100 300 a=i:1 15\n\
+                point m c sum cumulative monotonic 100 300 a=i:1,c=s:x,y=b:true,z=i:9 15\n\
                 point m c sum cumulative monotonic 100 300 otel.metric.overflow=b:true 250\n",
     },
     // Two orders of one set are two lists of a worker and one point: the last value wins, whichever order it comes in.
@@ -298,24 +298,24 @@ const BATCHES: &[Case] = &[
                  go\n\
                  meter m\n\
                  build 0 i64_gauge g 100\n\
-                 record 0 i:1 a=i:1,b=i:2\n\
-                 record 0 i:2 b=i:2,a=i:1\n\
-                 record 0 i:3 a=i:1,b=i:2\n\
-                 record 0 i:4 b=i:2,a=i:1\n\
-                 record 0 i:5 a=i:1,b=i:2\n\
-                 record 0 i:6 b=i:2,a=i:1\n\
-                 record 0 i:7 a=i:1,b=i:2\n\
-                 record 0 i:8 b=i:2,a=i:1\n\
-                 record 0 i:-9 a=i:1,b=i:2\n\
+                 record 0 i:1 a=i:1,b=i:2,c=i:3,d=i:4\n\
+                 record 0 i:2 d=i:4,c=i:3,b=i:2,a=i:1\n\
+                 record 0 i:3 a=i:1,b=i:2,c=i:3,d=i:4\n\
+                 record 0 i:4 d=i:4,c=i:3,b=i:2,a=i:1\n\
+                 record 0 i:5 a=i:1,b=i:2,c=i:3,d=i:4\n\
+                 record 0 i:6 d=i:4,c=i:3,b=i:2,a=i:1\n\
+                 record 0 i:7 a=i:1,b=i:2,c=i:3,d=i:4\n\
+                 record 0 i:8 d=i:4,c=i:3,b=i:2,a=i:1\n\
+                 record 0 i:-9 a=i:1,b=i:2,c=i:3,d=i:4\n\
                  collect 0 200\n\
-                 record 0 i:10 a=i:1,b=i:2\n\
-                 record 0 i:11 b=i:2,a=i:1\n\
-                 record 0 i:12 a=i:1,b=i:2\n\
-                 record 0 i:13 b=i:2,a=i:1\n\
-                 record 0 i:14 a=i:1,b=i:2\n\
-                 record 0 i:15 b=i:2,a=i:1\n\
-                 record 0 i:16 a=i:1,b=i:2\n\
-                 record 0 i:-17 b=i:2,a=i:1\n\
+                 record 0 i:10 a=i:1,b=i:2,c=i:3,d=i:4\n\
+                 record 0 i:11 d=i:4,c=i:3,b=i:2,a=i:1\n\
+                 record 0 i:12 a=i:1,b=i:2,c=i:3,d=i:4\n\
+                 record 0 i:13 d=i:4,c=i:3,b=i:2,a=i:1\n\
+                 record 0 i:14 a=i:1,b=i:2,c=i:3,d=i:4\n\
+                 record 0 i:15 d=i:4,c=i:3,b=i:2,a=i:1\n\
+                 record 0 i:16 a=i:1,b=i:2,c=i:3,d=i:4\n\
+                 record 0 i:-17 d=i:4,c=i:3,b=i:2,a=i:1\n\
                  collect 0 300\n",
         lines: "meter 0\n\
                 instrument 0\n\
@@ -329,7 +329,7 @@ const BATCHES: &[Case] = &[
                 ok\n\
                 ok\n\
                 collected 1\n\
-                point m g gauge 100 200 a=i:1,b=i:2 -9\n\
+                point m g gauge 100 200 a=i:1,b=i:2,c=i:3,d=i:4 -9\n\
                 ok\n\
                 ok\n\
                 ok\n\
@@ -339,7 +339,7 @@ const BATCHES: &[Case] = &[
                 ok\n\
                 ok\n\
                 collected 1\n\
-                point m g gauge 100 300 a=i:1,b=i:2 -17\n",
+                point m g gauge 100 300 a=i:1,b=i:2,c=i:3,d=i:4 -17\n",
     },
     // Twelve records of one series at two readers. The delta reader starts again: nothing of the batch is left there.
     Case {
@@ -349,22 +349,22 @@ const BATCHES: &[Case] = &[
                  go\n\
                  meter m\n\
                  build 0 u64_counter c 100\n\
-                 record 0 u:1 a=i:1\n\
-                 record 0 u:2 a=i:1\n\
-                 record 0 u:3 a=i:1\n\
-                 record 0 u:4 a=i:1\n\
-                 record 0 u:5 a=i:1\n\
-                 record 0 u:6 a=i:1\n\
-                 record 0 u:7 a=i:1\n\
-                 record 0 u:8 a=i:1\n\
-                 record 0 u:9 a=i:1\n\
-                 record 0 u:10 a=i:1\n\
-                 record 0 u:11 a=i:1\n\
-                 record 0 u:12 a=i:1\n\
+                 record 0 u:1 a=i:1,c=s:x,y=b:true,z=i:9\n\
+                 record 0 u:2 a=i:1,c=s:x,y=b:true,z=i:9\n\
+                 record 0 u:3 a=i:1,c=s:x,y=b:true,z=i:9\n\
+                 record 0 u:4 a=i:1,c=s:x,y=b:true,z=i:9\n\
+                 record 0 u:5 a=i:1,c=s:x,y=b:true,z=i:9\n\
+                 record 0 u:6 a=i:1,c=s:x,y=b:true,z=i:9\n\
+                 record 0 u:7 a=i:1,c=s:x,y=b:true,z=i:9\n\
+                 record 0 u:8 a=i:1,c=s:x,y=b:true,z=i:9\n\
+                 record 0 u:9 a=i:1,c=s:x,y=b:true,z=i:9\n\
+                 record 0 u:10 a=i:1,c=s:x,y=b:true,z=i:9\n\
+                 record 0 u:11 a=i:1,c=s:x,y=b:true,z=i:9\n\
+                 record 0 u:12 a=i:1,c=s:x,y=b:true,z=i:9\n\
                  collect 1 200\n\
                  collect 1 300\n\
                  collect 0 310\n\
-                 record 0 u:1000 a=i:1\n\
+                 record 0 u:1000 a=i:1,c=s:x,y=b:true,z=i:9\n\
                  collect 1 400\n\
                  collect 0 410\n",
         lines: "meter 0\n\
@@ -382,15 +382,15 @@ const BATCHES: &[Case] = &[
                 ok\n\
                 ok\n\
                 collected 1\n\
-                point m c sum delta monotonic 100 200 a=i:1 78\n\
+                point m c sum delta monotonic 100 200 a=i:1,c=s:x,y=b:true,z=i:9 78\n\
                 collected 0\n\
                 collected 1\n\
-                point m c sum cumulative monotonic 100 310 a=i:1 78\n\
+                point m c sum cumulative monotonic 100 310 a=i:1,c=s:x,y=b:true,z=i:9 78\n\
                 ok\n\
                 collected 1\n\
-                point m c sum delta monotonic 300 400 a=i:1 1000\n\
+                point m c sum delta monotonic 300 400 a=i:1,c=s:x,y=b:true,z=i:9 1000\n\
                 collected 1\n\
-                point m c sum cumulative monotonic 100 410 a=i:1 1078\n",
+                point m c sum cumulative monotonic 100 410 a=i:1,c=s:x,y=b:true,z=i:9 1078\n",
     },
     // A batch takes no number of a handle: the first that is bound after one is 0, and the next after another is 1.
     Case {
@@ -399,26 +399,26 @@ const BATCHES: &[Case] = &[
                  go\n\
                  meter m\n\
                  build 0 u64_histogram h 100 bounds=5,10\n\
-                 record 0 u:1 a=i:1\n\
-                 record 0 u:5 a=i:1\n\
-                 record 0 u:6 a=i:1\n\
-                 record 0 u:10 a=i:1\n\
-                 record 0 u:11 a=i:1\n\
-                 record 0 u:2 a=i:1\n\
-                 record 0 u:5 a=i:1\n\
-                 record 0 u:20 a=i:1\n\
-                 bind 0 a=i:1\n\
+                 record 0 u:1 a=i:1,c=s:x,y=b:true,z=i:9\n\
+                 record 0 u:5 a=i:1,c=s:x,y=b:true,z=i:9\n\
+                 record 0 u:6 a=i:1,c=s:x,y=b:true,z=i:9\n\
+                 record 0 u:10 a=i:1,c=s:x,y=b:true,z=i:9\n\
+                 record 0 u:11 a=i:1,c=s:x,y=b:true,z=i:9\n\
+                 record 0 u:2 a=i:1,c=s:x,y=b:true,z=i:9\n\
+                 record 0 u:5 a=i:1,c=s:x,y=b:true,z=i:9\n\
+                 record 0 u:20 a=i:1,c=s:x,y=b:true,z=i:9\n\
+                 bind 0 a=i:1,c=s:x,y=b:true,z=i:9\n\
                  recordbound 0 u:7\n\
                  flush\n\
-                 record 0 u:3 b=i:1\n\
-                 record 0 u:3 b=i:1\n\
-                 record 0 u:3 b=i:1\n\
-                 record 0 u:3 b=i:1\n\
-                 record 0 u:8 a=i:1\n\
-                 record 0 u:8 a=i:1\n\
-                 record 0 u:8 a=i:1\n\
-                 record 0 u:8 a=i:1\n\
-                 bind 0 b=i:1\n\
+                 record 0 u:3 b=i:1,c=s:x,y=b:true,z=i:9\n\
+                 record 0 u:3 b=i:1,c=s:x,y=b:true,z=i:9\n\
+                 record 0 u:3 b=i:1,c=s:x,y=b:true,z=i:9\n\
+                 record 0 u:3 b=i:1,c=s:x,y=b:true,z=i:9\n\
+                 record 0 u:8 a=i:1,c=s:x,y=b:true,z=i:9\n\
+                 record 0 u:8 a=i:1,c=s:x,y=b:true,z=i:9\n\
+                 record 0 u:8 a=i:1,c=s:x,y=b:true,z=i:9\n\
+                 record 0 u:8 a=i:1,c=s:x,y=b:true,z=i:9\n\
+                 bind 0 b=i:1,c=s:x,y=b:true,z=i:9\n\
                  recordbound 1 u:30\n\
                  unbind 0\n\
                  collect 0 200\n",
@@ -447,8 +447,8 @@ const BATCHES: &[Case] = &[
                 ok\n\
                 ok\n\
                 collected 2\n\
-                point m h histogram cumulative 100 200 a=i:1 13 99 1 20 4,7,2\n\
-                point m h histogram cumulative 100 200 b=i:1 5 42 3 30 4,0,1\n",
+                point m h histogram cumulative 100 200 a=i:1,c=s:x,y=b:true,z=i:9 13 99 1 20 4,7,2\n\
+                point m h histogram cumulative 100 200 b=i:1,c=s:x,y=b:true,z=i:9 5 42 3 30 4,0,1\n",
     },
     // A record at an instrument that isn't there, and one of the other number type, stop a submission. The records before
     // them are made, and those after them once they are taken out.
@@ -459,17 +459,17 @@ const BATCHES: &[Case] = &[
                  meter m\n\
                  build 0 i64_up_down_counter u 100\n\
                  record 0 i:1 -\n\
-                 record 0 i:-2 a=i:1\n\
+                 record 0 i:-2 a=i:1,c=s:x,y=b:true,z=i:9\n\
                  record 0 i:1 -\n\
-                 record 0 i:-2 a=i:1\n\
+                 record 0 i:-2 a=i:1,c=s:x,y=b:true,z=i:9\n\
                  record 0 i:1 -\n\
-                 record 0 i:-2 a=i:1\n\
+                 record 0 i:-2 a=i:1,c=s:x,y=b:true,z=i:9\n\
                  record 0 i:1 -\n\
-                 record 0 i:-2 a=i:1\n\
-                 record 1 i:64 a=i:1\n\
+                 record 0 i:-2 a=i:1,c=s:x,y=b:true,z=i:9\n\
+                 record 1 i:64 a=i:1,c=s:x,y=b:true,z=i:9\n\
                  record 0 i:1 -\n\
-                 record 0 u:64 a=i:1\n\
-                 record 0 i:-2 a=i:1\n\
+                 record 0 u:64 a=i:1,c=s:x,y=b:true,z=i:9\n\
+                 record 0 i:-2 a=i:1,c=s:x,y=b:true,z=i:9\n\
                  collect 0 200\n",
         lines: "meter 0\n\
                 instrument 0\n\
@@ -487,7 +487,7 @@ const BATCHES: &[Case] = &[
                 ok\n\
                 collected 2\n\
                 point m u sum cumulative plain 100 200 - 5\n\
-                point m u sum cumulative plain 100 200 a=i:1 -10\n",
+                point m u sum cumulative plain 100 200 a=i:1,c=s:x,y=b:true,z=i:9 -10\n",
     },
 ];
 

@@ -78,11 +78,11 @@ const LISTS: &[&str] = &[
     "-",
     "a=i:1",
     "a=i:2",
-    "a=i:1,b=i:1",
-    "b=i:1,a=i:1",
-    "a=i:2,b=i:1",
-    "b=s:x",
-    "b=i:1,a=i:1,b=i:2",
+    "a=i:1,b=i:1,c=i:1,d=i:1",
+    "b=i:1,a=i:1,c=i:1,d=i:1",
+    "a=i:2,b=i:1,c=i:1,d=i:1",
+    "b=s:x,c=s:x,d=s:x",
+    "b=i:1,a=i:1,b=i:2,d=i:1,c=i:1",
     "otel.metric.overflow=b:true",
 ];
 
