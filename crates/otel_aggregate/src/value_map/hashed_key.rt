@@ -152,8 +152,8 @@ impl<'a> HashedSet<'a> {
     }
 }
 
-/// A set of attributes, or a list of them as given, that is to be added to a table, with its hash and what it was hashed
-/// with.
+/// A set of attributes, or a list of them as given, with its hash and what it was hashed with. It is to be added to a table,
+/// or is lent for many records.
 pub struct OwnedSet {
     hasher: SetHashBuilder,
     hash: u64,
@@ -204,7 +204,7 @@ impl OwnedSet {
         }
     }
 
-    /// The attributes of records that are looked up by the set's hash.
+    /// The attributes as those of a record, with their hash.
     #[inline(always)]
     pub fn given(&self) -> GivenAttributes<'_>
         ensures { result ≡ self.now }
