@@ -61,7 +61,10 @@ impl Holdings {
     /// Whether the series at this place, with this many attributes, has so many records that a handle is worth while.
     pub(crate) fn has_many(&self, series: usize, attributes: usize) -> bool {
         match self.counts.get(series) {
-            Some(count) => (*count as usize).saturating_sub(1).saturating_mul(attributes) >= MANY,
+            Some(count) => (*count as usize)
+                .saturating_sub(1)
+                .saturating_mul(attributes)
+                >= MANY,
             None => false,
         }
     }

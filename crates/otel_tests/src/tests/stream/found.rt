@@ -214,3 +214,55 @@ fn parts_are_given_back(rt: HostRuntime) {
     let (key, value) = attribute.into_parts();
     assert_shows(rt, alloc, &(key.as_str(), &value), "(\"a\", I64(1))");
 }
+
+/// A sum comes back by number type and aggregation, and then what it was made of.
+#[test]
+fn sum_is_given_back(rt: HostRuntime) {
+    let rt = &rt;
+    let alloc = rt.alloc();
+    let (unsigned, signed) = sum(rt, alloc).into_parts();
+    assert!(rt; signed.is_none());
+    let (gauge, sum, histogram) = unsigned.expect(rt, "unsigned").into_parts();
+    assert!(rt; gauge.is_none() && histogram.is_none());
+    let (points, start, time, temporality, is_monotonic) = sum.expect(rt, "a sum").into_parts();
+    let settings = (start, time, temporality, is_monotonic);
+    assert_shows(rt, alloc, &settings, "(0, 1, Cumulative, true)");
+    let point = points.into_vec().pop().expect(rt, "a point");
+    let (attributes, exemplars, value) = point.into_parts();
+    assert!(rt; attributes.as_slice().len() == 2 && exemplars.as_slice().is_empty());
+    assert_eq!(rt; value, 7);
+}
+
+#[test]
+fn gauge_is_given_back(rt: HostRuntime) {
+    let rt = &rt;
+    let alloc = rt.alloc();
+    let (unsigned, signed) = gauge(rt, alloc).into_parts();
+    assert!(rt; unsigned.is_none());
+    let (gauge, sum, histogram) = signed.expect(rt, "signed").into_parts();
+    assert!(rt; sum.is_none() && histogram.is_none());
+    let (points, start, time) = gauge.expect(rt, "a gauge").into_parts();
+    assert_eq!(rt; (start, time), (0, 1));
+    let point = points.into_vec().pop().expect(rt, "a point");
+    let (attributes, exemplars, value) = point.into_parts();
+    assert!(rt; attributes.as_slice().len() == 2 && exemplars.as_slice().is_empty());
+    assert_eq!(rt; value, -7);
+}
+
+#[test]
+fn histogram_is_given_back(rt: HostRuntime) {
+    let rt = &rt;
+    let alloc = rt.alloc();
+    let (unsigned, _signed) = histogram(rt, alloc).into_parts();
+    let (gauge, sum, histogram) = unsigned.expect(rt, "unsigned").into_parts();
+    assert!(rt; gauge.is_none() && sum.is_none());
+    let (points, start, time, temporality, has_sum) = histogram
+        .expect(rt, "a histogram")
+        .into_parts();
+    let settings = (start, time, temporality, has_sum);
+    assert_shows(rt, alloc, &settings, "(0, 1, Delta, true)");
+    let point = points.into_vec().pop().expect(rt, "a point");
+    let (attributes, exemplars, bounds, counts) = point.into_parts();
+    assert!(rt; attributes.as_slice().len() == 2 && exemplars.as_slice().is_empty());
+    assert!(rt; bounds.as_slice().is_empty() && counts.as_slice().is_empty());
+}
