@@ -1,7 +1,7 @@
 -- A submission goes on by one record.
 use Rattle.std.proofs.Common.{◌≡◌, ℕ, ◌+◌, ◌-◌, ◌<◌, ◌≤◌, List, [], ◌∷◌, ◌++◌, map, length, get_or, take, drop, sum_by, refl, sym, ap, ◌∙◌, subst, arith, add-one, length-drop, drop-cons}
-use Rattle.std.proofs.Math.Seq.{take-suc}
-use Rattle.std.proofs.lemmas.List.{map-append}
+use Rattle.std.proofs.Math.Seq.{take-suc, take-add}
+use Rattle.std.proofs.lemmas.List.{map-append, drop-drop}
 use Rattle.std.proofs.lemmas.List.Sums.{sum_by-append}
 use Rattle.otel_model.specs.Calls.{Call}
 use Rattle.otel_model.specs.State.{State}
@@ -34,6 +34,29 @@ submits-more old before mid after n v new later p so_far first done =
       runs = subst (λ cs. AreDone old cs new) (sym calls) (done-more old (map call_in (take n before)) mid (call_in p) new so_far.runs done);
       total = omega (arith, so_far.total, ap (λ ps. sum_by bits_in ps) next.0, sum_by-append bits_in (take n before) (p ∷ []));
     }
+
+done-all : (old : State) (calls : List Call) (mid : State) (more : List Call) (new : State) → AreDone old calls mid → AreDone mid more new → AreDone old (calls ++ more) new
+done-all old [] mid more new is are = subst (λ st. AreDone st more new) is are
+done-all old (c ∷ calls) mid more new so_far are = (so_far.0, so_far.1, done-all so_far.0 calls mid more new so_far.2 are)
+
+-- one submission after another is one
+submits-all : (old : State) (before : List PendingRecord) (mid : State) (after : List PendingRecord) (n v : ℕ) (new : State) (later : List PendingRecord) (k w : ℕ) → Submits old before mid after n v → Submits mid after new later k w → Submits old before new later (n + k) (v + w)
+submits-all old before mid after n v new later k w first more =
+    let taken : take (n + k) before ≡ take n before ++ take k after = rw (first.rest) (take-add n k before) in
+    let calls : map call_in (take (n + k) before) ≡ map call_in (take n before) ++ map call_in (take k after) = ap (map call_in) taken ∙ map-append call_in (take n before) (take k after) in
+    record {
+      within = omega (arith, first.within, more.within, ap length first.rest, length-drop n before);
+      rest = more.rest ∙ ap (drop k) first.rest ∙ drop-drop k n before;
+      runs = subst (λ cs. AreDone old cs new) (sym calls) (done-all old (map call_in (take n before)) mid (map call_in (take k after)) new first.runs more.runs);
+      total = omega (arith, first.total, more.total, ap (λ ps. sum_by bits_in ps) taken, sum_by-append bits_in (take n before) (take k after));
+    }
+
+-- the same where the numbers are what was added to others
+pub submits-further : (old : State) (before : List PendingRecord) (mid : State) (after : List PendingRecord) (m₀ m v₀ v : ℕ) (new : State) (later : List PendingRecord) (k w : ℕ) → m₀ ≤ m → v₀ ≤ v → m ≤ k → v ≤ w → Submits old before mid after (m - m₀) (v - v₀) → Submits mid after new later (k - m) (w - v) → Submits old before new later (k - m₀) (w - v₀)
+submits-further old before mid after m₀ m v₀ v new later k w low least more larger first next =
+    let count : m - m₀ + (k - m) ≡ k - m₀ = omega arith in
+    let value : v - v₀ + (w - v) ≡ w - v₀ = omega arith in
+    subst (λ n. Submits old before new later n (w - v₀)) count (subst (Submits old before new later (m - m₀ + (k - m))) value (submits-all old before mid after (m - m₀) (v - v₀) new later (k - m) (w - v) first next))
 
 -- the same where both numbers are what was added to others
 pub submits-on : (old : State) (before : List PendingRecord) (mid : State) (after : List PendingRecord) (m₀ m v₀ v : ℕ) (new : State) (later : List PendingRecord) (k w : ℕ) → m₀ ≤ m → v₀ ≤ v → Submits old before mid after (m - m₀) (v - v₀) → Makes mid after new later v w → k ≡ m + 1 → Submits old before new later (k - m₀) (w - v₀)

@@ -162,7 +162,7 @@ fn record_together(
     ensures within { result ≤ length waiting.now.records }
     ensures made { (st : State) → IsBatch first waiting.now.series [] st (map part_of pipelines.old) instruments.old.items → IsMade (map call_in (take result waiting.now.records)) first waiting.now.series [] st (map part_of pipelines.new) instruments.new.items }
 {
-    let Ok(mut holdings) = Holdings::new(alloc, waiting) else {
+    let Ok(mut holdings) = Holdings::new(alloc, waiting, most) else {
         return 0;
     };
     let made = record_each(pipelines, instruments, &mut holdings, first, waiting, most);

@@ -285,7 +285,9 @@ impl<C: Account, S: Account> Booked<C, S> {
         ensures series { StaysListed (waits_of worker.old) (waits_of worker.new) }
     {
         self.make_waiting(worker);
-        while self.make_first(worker)? {}
+        while self.make_first(worker)? {
+            self.make_waiting(worker);
+        }
         self.records.audit(&mut worker.records);
         Ok(Receipt {
             accepted: self.accepted,
@@ -303,7 +305,7 @@ impl<C: Account, S: Account> Booked<C, S> {
         ensures series { StaysListed (waits_of worker.old) (waits_of worker.new) }
     {
         let room = u64::MAX - self.accepted;
-        let most = worker.waiting.len().min(room as usize);
+        let most = worker.waiting.count_listed().min(room as usize);
         let made = self.core.record_waiting(&worker.waiting, most);
         enter_each(&mut self.records, &mut self.values, worker, made);
         self.accepted += made as u64;

@@ -13,9 +13,9 @@ use std::marker::Model;
 /// series but the first, and costs a thousand instructions.
 const MANY: usize = 12;
 
-/// How many records wait of each series, and for which of them a handle is held.
+/// How many records of each series are to be made, and for which of them a handle is held.
 pub(crate) struct Holdings {
-    /// How many records of each series wait, by the series' places.
+    /// How many records of each series are to be made, by the series' places.
     counts: Vec<u32>,
     /// Where the handle of each stands among the handles of a stream, if one is held.
     places: Vec<Option<usize>>,
@@ -47,12 +47,16 @@ impl Drop for Holdings {
 }
 
 impl Holdings {
-    /// Counts the records that wait. No handle is held.
-    pub(crate) fn new(alloc: Global, waiting: &Waiting) -> Result<Holdings, AllocError>
+    /// Counts the records that are to be made: the first that wait, up to this many. No handle is held.
+    pub(crate) fn new(
+        alloc: Global,
+        waiting: &Waiting,
+        most: usize,
+    ) -> Result<Holdings, AllocError>
         ensures { IfOk result (λ holdings. holdings ≡ []) }
     {
         Ok(Holdings {
-            counts: waiting.counts(alloc)?,
+            counts: waiting.counts(alloc, most)?,
             places: Vec::from_elem(alloc, None, waiting.count_series())?,
             held: Vec::new(alloc),
         })

@@ -135,10 +135,20 @@ impl Waiting {
         self.table.len()
     }
 
-    /// How many records of each series wait, by the places of the series.
-    pub(crate) fn counts(&self, alloc: Global) -> Result<Vec<u32>, AllocError> {
+    /// How many records wait before the first one through a handle.
+    pub(crate) fn count_listed(&self) -> usize {
+        for number in self.made..self.records.len() {
+            if let WaitingRecord::Bound { .. } = self.records[number] {
+                return number - self.made;
+            }
+        }
+        self.len()
+    }
+
+    /// How many of the first records that wait, up to this many, are of each series, by the places of the series.
+    pub(crate) fn counts(&self, alloc: Global, most: usize) -> Result<Vec<u32>, AllocError> {
         let mut counts = Vec::from_elem(alloc, 0, self.table.len())?;
-        for record in &self.records[self.made..] {
+        for record in self.records[self.made..].iter().take(most) {
             if let WaitingRecord::Plain { place, .. } = *record {
                 if let Some(count) = counts.get_mut(place) {
                     let more: u32 = *count;
