@@ -43,7 +43,7 @@ HasSeries n (waiting.Bound handle value) = ⊤
 
 -- a record whose attributes are lent
 abbrev pub lent_record : LentRecord → PendingRecord
-lent_record (lent.Plain instrument value attributes) = pending.Plain instrument value attributes.now
+lent_record (lent.Plain instrument value attributes) = pending.Plain instrument value attributes
 lent_record (lent.Bound handle value) = pending.Bound handle value
 
 -- the worker goes on to know its series, perhaps with further ones behind them; or they were 1,000 or more and no record

@@ -32,14 +32,35 @@ impl Core {
         ensures known { is_known instrument attributes.now self.old.state ≡ true → IfErr result IsNamed }
         ensures seeded { self.new.hash_seed ≡ self.old.hash_seed }
     {
+        self.record_given(
+            identity,
+            instrument,
+            value,
+            &GivenAttributes::new(attributes),
+        )
+    }
+
+    /// Does what `record` does with attributes that may have their hash.
+    #[inline(always)]
+    pub fn record_given(
+        &mut self,
+        identity: u64,
+        instrument: usize,
+        value: NumberValue,
+        attributes: &GivenAttributes,
+    ) -> Result<(), Fault>
+        ensures step { identity ≡ self.old.state.shared.identity → (views : Views) → Step views self.old.state (model.Call.Record instrument (number_of value) attributes.now) (reply_from (λ _. model.Reply.Done) result) self.new.state }
+        ensures foreign { ¬ (identity ≡ self.old.state.shared.identity) → (result ≡ Err Fault.UnknownInstrument) × (self.new.state ≡ self.old.state) }
+        ensures known { is_known instrument attributes.now self.old.state ≡ true → IfErr result IsNamed }
+        ensures seeded { self.new.hash_seed ≡ self.old.hash_seed }
+    {
         if identity != self.identity {
             return Err(Fault::UnknownInstrument);
         }
         if let Err(fault) = check_value(&self.instruments, instrument, value) {
             return Err(fault);
         }
-        let given = GivenAttributes::new(attributes);
-        record_or_none(&mut self.pipelines, instrument, value, &given)?;
+        record_or_none(&mut self.pipelines, instrument, value, attributes)?;
         self.instruments[instrument].accept(value);
         Ok(())
     }

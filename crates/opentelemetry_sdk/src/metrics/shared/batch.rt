@@ -170,7 +170,8 @@ fn record_together(
     made
 }
 
-/// So few records are made one by one.
+/// Fewer records than this are made one by one, and so are fewer than one for this many series that the worker knows, since
+/// handles take a number and a place for each of these.
 const FEW: usize = 8;
 
 impl Core {
@@ -182,7 +183,8 @@ impl Core {
         ensures made { AreDone self.old.state (map call_in (take result waiting.now.records)) self.new.state }
         ensures seeded { self.new.hash_seed ≡ self.old.hash_seed }
     {
-        if most < FEW || self.next > u64::MAX - waiting.count_series() as u64 {
+        let series = waiting.count_series();
+        if most < FEW.max(series / FEW) || self.next > u64::MAX - series as u64 {
             return 0;
         }
         record_together(

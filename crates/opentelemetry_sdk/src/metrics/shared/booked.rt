@@ -78,10 +78,10 @@ impl<C: Account, S: Account> Drop for Booked<C, S> {
 }
 
 /// Makes a record, and answers what the core does.
-fn answer_to(core: &mut Core, pending: LentRecord<'_>) -> Result<(), Fault>
-    ensures step { (views : Views) → Step views core.old.state (call_in (lent_record pending.entry)) (reply_from (λ _. model.Reply.Done) result) core.new.state }
+fn answer_to(core: &mut Core, pending: &LentRecord<'_>) -> Result<(), Fault>
+    ensures step { (views : Views) → Step views core.old.state (call_in (lent_record pending.now)) (reply_from (λ _. model.Reply.Done) result) core.new.state }
     ensures seeded { core.new.hash_seed ≡ core.old.hash_seed }
-    ensures known { IsKnown core.old.state (call_in (lent_record pending.entry)) → IfErr result IsNamed }
+    ensures known { IsKnown core.old.state (call_in (lent_record pending.now)) → IfErr result IsNamed }
 {
     let identity = core.identity();
     match pending {
@@ -89,21 +89,21 @@ fn answer_to(core: &mut Core, pending: LentRecord<'_>) -> Result<(), Fault>
             instrument,
             value,
             attributes,
-        } => core.record(identity, instrument, value, attributes),
+        } => core.record_given(identity, *instrument, *value, attributes),
         LentRecord::Bound { handle, value } => {
-            core.record_bound(identity, BoundHandle::numbered(handle), value)
+            core.record_bound(identity, BoundHandle::numbered(*handle), *value)
         }
     }
 }
 
 /// Makes a record. What all instruments accepted grows by it, unless it is refused.
-fn make(core: &mut Core, pending: LentRecord<'_>) -> Result<(), Fault>
-    ensures done { OnOk result (IsDone core.old.state (call_in (lent_record pending.entry)) core.new.state) }
+fn make(core: &mut Core, pending: &LentRecord<'_>) -> Result<(), Fault>
+    ensures done { OnOk result (IsDone core.old.state (call_in (lent_record pending.now)) core.new.state) }
     ensures seeded { core.new.hash_seed ≡ core.old.hash_seed }
     ensures count { OnOk result (count_in core.new.state % 2 ^ 64 ≡ (count_in core.old.state + 1) % 2 ^ 64) }
-    ensures sum { OnOk result (sum_in core.new.state % 2 ^ 64 ≡ (sum_in core.old.state + bits_in (lent_record pending.entry)) % 2 ^ 64) }
-    ensures refused { IfErr result (λ f. IsRefused core.old.state (call_in (lent_record pending.entry)) f × (core.new.state ≡ core.old.state)) }
-    ensures known { IsKnown core.old.state (call_in (lent_record pending.entry)) → IfErr result IsNamed }
+    ensures sum { OnOk result (sum_in core.new.state % 2 ^ 64 ≡ (sum_in core.old.state + bits_in (lent_record pending.now)) % 2 ^ 64) }
+    ensures refused { IfErr result (λ f. IsRefused core.old.state (call_in (lent_record pending.now)) f × (core.new.state ≡ core.old.state)) }
+    ensures known { IsKnown core.old.state (call_in (lent_record pending.now)) → IfErr result IsNamed }
 {
     answer_to(core, pending)
 }
@@ -329,10 +329,11 @@ impl<C: Account, S: Account> Booked<C, S> {
             return Ok(false);
         };
         check_book(self.accepted)?;
-        if let Err(fault) = make(&mut self.core, first) {
+        if let Err(fault) = make(&mut self.core, &first) {
             return Err(fault);
         }
         let value = first.bits();
+        drop(first);
         worker.waiting.pass_first();
         enter(&mut self.records, &mut self.values, worker, value);
         self.accepted += 1;
@@ -344,12 +345,12 @@ impl<C: Account, S: Account> Booked<C, S> {
     pub(crate) fn record(
         &mut self,
         worker: &mut Worker<C, S>,
-        made: LentRecord<'_>,
+        made: &LentRecord<'_>,
     ) -> Result<(), Fault>
-        ensures done { OnOk result ((pending_of worker.old ≡ []) × IsDone self.old.core.state (call_in (lent_record made.entry)) self.new.core.state × (records_of worker.new ≡ records_of worker.old + 1) × (values_of worker.new ≡ values_of worker.old + bits_in (lent_record made.entry))) }
+        ensures done { OnOk result ((pending_of worker.old ≡ []) × IsDone self.old.core.state (call_in (lent_record made.now)) self.new.core.state × (records_of worker.new ≡ records_of worker.old + 1) × (values_of worker.new ≡ values_of worker.old + bits_in (lent_record made.now))) }
         ensures waits { 0 < length (pending_of worker.old) → result ≡ Err Fault.UseWorker }
-        ensures known { IfErr result (λ f. IsKnown self.old.core.state (call_in (lent_record made.entry)) → IsNamed f) }
-        ensures fault { IfErr result (λ f. pending_of worker.old ≡ [] → StopsBy self.new.core.state (lent_record made.entry ∷ []) self.new.records.total f) }
+        ensures known { IfErr result (λ f. IsKnown self.old.core.state (call_in (lent_record made.now)) → IsNamed f) }
+        ensures fault { IfErr result (λ f. pending_of worker.old ≡ [] → StopsBy self.new.core.state (lent_record made.now ∷ []) self.new.records.total f) }
         ensures refused { OnErr result ((self.new.core.state ≡ self.old.core.state) × (records_of worker.new ≡ records_of worker.old) × (values_of worker.new ≡ values_of worker.old)) }
         ensures seeded { self.new.core.hash_seed ≡ self.old.core.hash_seed }
         ensures book { (self.new.records.total + records_of worker.old ≡ self.old.records.total + records_of worker.new) × (self.new.values.total + values_of worker.old ≡ self.old.values.total + values_of worker.new) }

@@ -48,11 +48,7 @@ impl Drop for Holdings {
 
 impl Holdings {
     /// Counts the records that are to be made: the first that wait, up to this many. No handle is held.
-    pub(crate) fn new(
-        alloc: Global,
-        waiting: &Waiting,
-        most: usize,
-    ) -> Result<Holdings, AllocError>
+    pub(crate) fn new(alloc: Global, waiting: &Waiting, most: usize) -> Result<Holdings, AllocError>
         ensures { IfOk result (λ holdings. holdings ≡ []) }
     {
         Ok(Holdings {

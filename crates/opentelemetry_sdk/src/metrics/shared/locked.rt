@@ -32,6 +32,7 @@ use crate::parts::{Boxed, Parts};
 use crate::provider::Provider;
 use crate::values::bound::Bound;
 use crate::values::synchronous::Synchronous;
+use otel_aggregate::value_map::hashed_key::GivenAttributes;
 use otel_common::attributes::KeyValue;
 use otel_common::faults::Fault;
 use otel_data::collections::ResourceMetrics;
@@ -254,9 +255,9 @@ impl<P: Parts, C: Account, S: Account> Locked<P, C, S> {
         let made = LentRecord::Plain {
             instrument: instrument.number(),
             value: value.into_value(),
-            attributes,
+            attributes: GivenAttributes::new(attributes),
         };
-        let recorded = self.booked.record(worker, made);
+        let recorded = self.booked.record(worker, &made);
         self.booked.balances();
         recorded
     }
@@ -292,7 +293,7 @@ impl<P: Parts, C: Account, S: Account> Locked<P, C, S> {
             handle: handle.number(),
             value: value.into_value(),
         };
-        let recorded = self.booked.record(worker, made);
+        let recorded = self.booked.record(worker, &made);
         self.booked.balances();
         recorded
     }

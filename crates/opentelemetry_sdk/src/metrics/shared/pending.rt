@@ -7,9 +7,8 @@ ghost use Rattle.opentelemetry_sdk.specs.Waiting.{lent_record};
 
 use crate::calls::Call;
 use crate::calls::record_attributes::RecordAttributes;
-use otel_aggregate::value_map::hashed_key::OwnedSet;
+use otel_aggregate::value_map::hashed_key::{GivenAttributes, OwnedSet};
 use otel_aggregate::values::bits_of;
-use otel_common::attributes::KeyValue;
 use otel_data::numbers::NumberValue;
 
 /// A record that a worker keeps until it is made.
@@ -49,13 +48,13 @@ impl PendingRecord {
 }
 
 /// A record that waits, with attributes that its worker lends.
-#[derive(Clone, Copy)]
+#[derive(Drop)]
 pub(crate) enum LentRecord<'a> {
     /// A value, with attributes, for the instrument of this number.
     Plain {
         instrument: usize,
         value: NumberValue,
-        attributes: &'a [KeyValue],
+        attributes: GivenAttributes<'a>,
     },
     /// A value for the handle of this number.
     Bound {
@@ -66,11 +65,11 @@ pub(crate) enum LentRecord<'a> {
 
 impl<'a> LentRecord<'a> {
     /// The 64 bits of the value.
-    pub(crate) fn bits(self) -> u64
-        ensures { result ≡ bits_in (lent_record self.entry) }
+    pub(crate) fn bits(&self) -> u64
+        ensures { result ≡ bits_in (lent_record self.now) }
     {
         match self {
-            LentRecord::Plain { value, .. } | LentRecord::Bound { value, .. } => bits_of(value),
+            LentRecord::Plain { value, .. } | LentRecord::Bound { value, .. } => bits_of(*value),
         }
     }
 }
@@ -82,6 +81,13 @@ pub(crate) enum WaitingRecord {
     Plain { place: usize, value: NumberValue },
     /// A value for the handle of this number.
     Bound { handle: u64, value: NumberValue },
+}
+
+impl WaitingRecord {
+    /// Whether it is through a handle.
+    pub(crate) fn is_bound(self) -> bool {
+        matches!(self, WaitingRecord::Bound { .. })
+    }
 }
 
 /// A record of a series that waits: where the series stands among those that its worker knows, and what makes the record.

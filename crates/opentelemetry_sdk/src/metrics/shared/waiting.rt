@@ -55,7 +55,7 @@ impl Drop for Waiting {
     }
 }
 
-/// A record whose attributes are lent.
+/// A record whose attributes are lent, with their hash.
 fn lent(table: &SeriesTable, given: WaitingRecord) -> Option<LentRecord<'_>>
     ensures lent { IfSome result (λ r. lent_record r ≡ record_in table.now.series given) }
     ensures none { IfNone result (¬ HasSeries (length table.now.series) given) }
@@ -65,7 +65,7 @@ fn lent(table: &SeriesTable, given: WaitingRecord) -> Option<LentRecord<'_>>
             Some(series) => Some(LentRecord::Plain {
                 instrument: series.instrument,
                 value,
-                attributes: series.attributes.as_slice(),
+                attributes: series.attributes.given(),
             }),
             None => None,
         },
@@ -135,10 +135,13 @@ impl Waiting {
         self.table.len()
     }
 
-    /// How many records wait before the first one through a handle.
+    /// How many records wait before the first one through a handle; 0 if one that isn't through a handle was just made.
     pub(crate) fn count_listed(&self) -> usize {
+        if self.made > 0 && !self.records[self.made - 1].is_bound() {
+            return 0;
+        }
         for number in self.made..self.records.len() {
-            if let WaitingRecord::Bound { .. } = self.records[number] {
+            if self.records[number].is_bound() {
                 return number - self.made;
             }
         }

@@ -1,5 +1,4 @@
-use Rattle.std.proofs.Common.{◌≡◌, ◌∙◌, rules, refl, true≢false, ap, sym, subst, List, [], map, slice_get, set, None, arith}
-use Rattle.otel_common.specs.declared.attributes.KeyValue.{KeyValue}
+use Rattle.std.proofs.Common.{◌≡◌, ◌∙◌, rules, refl, true≢false, ap, sym, subst, [], map, slice_get, set, None, arith}
 use Rattle.otel_model.specs.Calls as model
 use Rattle.otel_model.specs.Machine.{instrument_after_record, changed_at, part_after_call}
 use Rattle.otel_model.specs.Refusals.{record_refusal}
@@ -13,8 +12,8 @@ use Rattle.opentelemetry_sdk.specs.States.{CoreContents, IsFault, IsNamed, IsSou
 use Rattle.opentelemetry_sdk.proofs.Sound.{sound-step}
 use Rattle.opentelemetry_sdk.proofs.Stepped.{refused-step, memory-result, record-takes}
 use Rattle.opentelemetry_sdk.proofs.StepLemmas.{unchanged, lent-parts, taken-feeds, taken-inside, record-made}
-use Rattle.opentelemetry_sdk.proofs.provider_core.Core.record.Goals.{After-accept}
-use Rattle.opentelemetry_sdk.proofs.provider_core.Core.record.Goals as goal
+use Rattle.opentelemetry_sdk.proofs.provider_core.Core.record_given.Goals.{After-accept}
+use Rattle.opentelemetry_sdk.proofs.provider_core.Core.record_given.Goals as goal
 
 pub returns-in-Err-clause-step : goal.returns-in-Err-clause-step
 returns-in-Err-clause-step c =
@@ -35,7 +34,7 @@ invariant_of-self c =
 pub returns-in_err-record_or_none-clause-step : goal.returns-in_err-record_or_none-clause-step
 returns-in_err-record_or_none-clause-step c =
     let old : State = state_in c.self.inside in
-    rw (← c.self.view_is) (λ own views. memory-result (λ _. model.Reply.Done) views old _ (model.Call.Record c.args.instrument (number_of c.args.value) c.args.attributes.now) c.from_residual.result (record-takes c.args.instrument (number_of c.args.value) c.args.attributes.now (λ e. true≢false (sym (c.in_err-record_or_none.ensures.free (c.new-given.ensures ∙ e))))) (search rules)
+    rw (← c.self.view_is) (λ own views. memory-result (λ _. model.Reply.Done) views old _ (model.Call.Record c.args.instrument (number_of c.args.value) c.args.attributes.now) c.from_residual.result (record-takes c.args.instrument (number_of c.args.value) c.args.attributes.now (λ e. true≢false (sym (c.in_err-record_or_none.ensures.free e)))) (search rules)
     (ap (λ is. record_refusal (slice_get is c.args.instrument) (number_of c.args.value).signed) (sym c.deref.ensures.value) ∙ c.in_default.ensures.fits)
     (unchanged old _ c.self.inside.pipelines.len _ c.record_or_none.new.pipelines _ (omega arith) refl (ap (map part_of) c.deref_mut.ensures.value) c.in_err-record_or_none.ensures.err))
 
@@ -50,7 +49,7 @@ accepted : (c : After-accept) → set c.self.inside.instruments.items c.args.ins
 accepted c = set-changed (instrument_after_record (number_of c.args.value).amount) c.self.inside.instruments.items c.args.instrument c.index_mut.result.now c.accept.new.self (taken-inside c.args.instrument (number_of c.args.value) c.self.inside.instruments.items _ c.deref.ensures.value c.in_default.ensures.taken) c.index_mut.ensures.value c.accept.ensures
 
 sent : (c : After-accept) → map part_of c.record_or_none.new.pipelines ≡ map (part_after_call 0 (model.Call.Record c.args.instrument (number_of c.args.value) c.args.attributes.now)) (map part_of c.self.inside.pipelines.items)
-sent c = c.in_ok-record_or_none.ensures.ok ∙ ap (λ (given : List KeyValue). map (part_after_call 0 (model.Call.Record c.args.instrument (number_of c.args.value) given)) (map part_of c.deref_mut.result.now)) c.new-given.ensures ∙ ap (λ ps. map (part_after_call 0 (model.Call.Record c.args.instrument (number_of c.args.value) c.args.attributes.now)) (map part_of ps)) c.deref_mut.ensures.value
+sent c = c.in_ok-record_or_none.ensures.ok ∙ ap (λ ps. map (part_after_call 0 (model.Call.Record c.args.instrument (number_of c.args.value) c.args.attributes.now)) (map part_of ps)) c.deref_mut.ensures.value
 
 pub invariant_of-self-2 : goal.invariant_of-self-2
 invariant_of-self-2 c =
