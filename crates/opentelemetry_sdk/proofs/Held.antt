@@ -15,27 +15,28 @@ use Rattle.otel_model.specs.State.{InstrumentState, LiveHandle, Shared, ReaderPa
 use Rattle.otel_model.specs.Steps.{Step, reply_by, after_by}
 use Rattle.otel_model.specs.Lawful.{HandlesAreSound, PartIsLawful, TakesRecords}
 use Rattle.otel_model.proofs.Handles.{unfed-unheld, later-unheld}
-use Rattle.opentelemetry_sdk.specs.pipeline.Handles.{FeedsSynchronous, IsNewAt, IsHeldByFed, IsReadyToBindAt, part_after_bind}
-use Rattle.opentelemetry_sdk.specs.pipeline.Pipelines.{Piped, part_of}
-use Rattle.opentelemetry_sdk.proofs.pipeline.Handles.{bound-sent}
-use Rattle.opentelemetry_sdk.proofs.pipeline.PipelinesLemmas.{IsDoneUpto}
+use Rattle.otel_data.specs.declared.numbers.NumberValue.{NumberValue}
+use Rattle.otel_aggregate.specs.Any.{is_signed_value}
+use Rattle.opentelemetry_sdk.specs.declared.pipeline.change.Change.TheVariants as change
+use Rattle.opentelemetry_sdk.specs.pipeline.Handles.{FeedsSynchronous, IsNewAt, IsHeldByFed, Makes}
+use Rattle.opentelemetry_sdk.specs.pipeline.Pipelines.{FeedsType, Piped, number_of, part_of}
 use Rattle.opentelemetry_sdk.specs.States.{AreTyped}
 
 -- ======== all readers ========
-pub all_bound : (h n : ℕ) (l : List KeyValue) (ps : List Piped) → All (IsReadyToBindAt n l) ps → EachOf (FeedsSynchronous n) (map part_of ps) → EachOf (IsNewAt h) (map part_of ps)
-    → map (part_after_bind n h) ps ≡ map (part_after_call h (model.Call.Bind n l)) (map part_of ps)
-all_bound h n l [] all sync new = refl
-all_bound h n l (p ∷ ps) all sync new = λ i. bound-sent h n l p (all 0 p (omega arith)) sync.0 new.0 i ∷ all_bound h n l ps (λ j d g. all (suc j) d (omega arith)) sync.1 new.1 i
-
 -- what holds at each reader holds at one
 pub each-at : (P : ReaderPart → Type 0) (ps : List Piped) (i : ℕ) (d : Piped) → i < length ps → EachOf P (map part_of ps) → P (part_of (get_or ps i d))
 each-at P [] i d h all = absurd (omega arith)
 each-at P (p ∷ ps) zero d h all = all.0
 each-at P (p ∷ ps) (suc i) d h all = each-at P ps i d (omega arith) all.1
 
--- and at the first of those that are left
-pub each-left : (P : ReaderPart → Type 0) (g : ReaderPart → ReaderPart) (old new : List Piped) (i : ℕ) (d : Piped) → i < length new → IsDoneUpto part_of (λ (p : Piped). g (part_of p)) old new i → EachOf P (map part_of old) → P (part_of (get_or new i d))
-each-left P g old new i d h so_far all = subst (λ (p : Piped). P (part_of p)) (sym (so_far.rest i (omega arith) d)) (each-at P old i d (omega (arith, so_far.long)) all)
+-- a record through a handle is the call at each reader
+pub held-makes : (n h place : ℕ) (value : NumberValue) (ps : List Piped) → EachOf (FeedsType n (is_signed_value value)) (map part_of ps) → EachOf (FeedsSynchronous n) (map part_of ps) → EachOf (IsHeldByFed n h) (map part_of ps)
+    → All (Makes n (change.Held h place value) 0 (model.Call.RecordBound h (number_of value))) ps
+held-makes n h place value ps typed sync held i d l = (refl, each-at (FeedsType n (is_signed_value value)) ps i d l typed, each-at (FeedsSynchronous n) ps i d l sync, each-at (IsHeldByFed n h) ps i d l held)
+
+-- and so is its end
+pub unbind-makes : (n h : ℕ) (ps : List Piped) → EachOf (FeedsSynchronous n) (map part_of ps) → EachOf (IsHeldByFed n h) (map part_of ps) → All (Makes n (change.Unbind h) 0 (model.Call.Unbind h)) ps
+unbind-makes n h ps sync held i d l = (refl, each-at (FeedsSynchronous n) ps i d l sync, each-at (IsHeldByFed n h) ps i d l held)
 
 -- what is done at the only reader is done at all
 pub done-alone : (g : ReaderPart → ReaderPart) (ps : List Piped) (d y : Piped) → length ps ≡ 1 → part_of y ≡ g (part_of (get_or ps 0 d)) → map part_of (set ps 0 y) ≡ map g (map part_of ps)

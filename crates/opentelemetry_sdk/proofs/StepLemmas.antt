@@ -15,10 +15,9 @@ use Rattle.otel_model.specs.Refusals.{meter_refusal, record_refusal}
 use Rattle.otel_model.specs.Sent.{has_scope}
 use Rattle.otel_model.specs.State.{ReaderPart, InstrumentState, LiveHandle, Shared, State}
 use Rattle.otel_model.specs.Steps.{Step, number_from, reply_by, after_by}
-use Rattle.opentelemetry_sdk.specs.pipeline.Pipelines.{Piped, part_of, part_after_record, IsPreparedFor}
+use Rattle.opentelemetry_sdk.specs.pipeline.Pipelines.{Piped, part_of}
 use Rattle.opentelemetry_sdk.proofs.pipeline.Builds.{any-position, position-cons}
 use Rattle.opentelemetry_sdk.specs.pipeline.Views.{views_answering}
-use Rattle.opentelemetry_sdk.proofs.pipeline.Records.{recorded-sent}
 use Rattle.opentelemetry_sdk.proofs.Asked.{built-answered}
 use Rattle.opentelemetry_sdk.proofs.Stepped.{memory-step}
 use Rattle.opentelemetry_sdk.proofs.Typed.{typed-feeds}
@@ -98,14 +97,6 @@ all-asked views None about now answered asked ps = refl
 all-asked views (Some scope) about now answered asked [] = refl
 all-asked views (Some scope) about now answered asked (p ∷ ps) =
     λ i. (ap (λ l. machine.part_after_build (views_answering l) (Some scope) about now p) asked ∙ built-answered views scope about now p) i ∷ all-asked views (Some scope) about now answered asked ps i
-
--- ======== records ========
-pub all_recorded : (next n : ℕ) (value : NumberValue) (l : List KeyValue) (ps : List Piped) → All (IsPreparedFor n l) ps → FeedType n (number_of value) (map part_of ps)
-    → map (part_after_record n value) ps ≡ map (machine.part_after_call next (model.Call.Record n (number_of value) l)) (map part_of ps)
-all_recorded next n value l [] all typed = refl
-all_recorded next n value l (p ∷ ps) all typed =
-    λ i. recorded-sent next n value l p (all 0 p (omega arith)) typed.0 i
-    ∷ all_recorded next n value l ps (λ j d h. all (suc j) d (omega arith)) typed.1 i
 
 -- ======== lent readers ========
 -- what was lent whole comes back whole

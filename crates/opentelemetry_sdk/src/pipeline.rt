@@ -1,20 +1,18 @@
 //! One reader's part of a provider: its answers, its streams, and what feeds them.
 
-ghost use Rattle.std.specs.Prelude.{◌≡◌, [], true, ℕ, IfOk, OnOk, OnErr, IsOk, IsOkUnless, map};
+ghost use Rattle.std.specs.Prelude.{◌≡◌, [], true, false, ℕ, IfOk, OnOk, OnErr, IsOk, IsOkUnless, map};
 ghost use Rattle.otel_model.specs.Calls as model;
 ghost use Rattle.otel_model.specs.Machine.{part_after_call};
 ghost use Rattle.opentelemetry_sdk.specs.pipeline.Collections.{IsCollectedFrom};
-ghost use Rattle.opentelemetry_sdk.specs.pipeline.Handles.{AreObservableFor, FeedsSynchronous, IsHeldByFed, IsReadyToBindAt, part_after_bind};
+ghost use Rattle.opentelemetry_sdk.specs.pipeline.Handles.{AreObservableFor, Makes};
 ghost use Rattle.opentelemetry_sdk.specs.pipeline.Known.{is_known_at};
 ghost use Rattle.opentelemetry_sdk.specs.pipeline.Observations.{AreTypedFor, observed_of};
-ghost use Rattle.opentelemetry_sdk.specs.pipeline.Pipelines.{part_of, has_stream_at, number_of, part_after_record, FeedsType, IsLawful, IsPreparedFor};
+ghost use Rattle.opentelemetry_sdk.specs.pipeline.Pipelines.{part_of, has_stream_at, number_of, FeedsType, IsLawful, IsReadyFor};
 ghost use Rattle.otel_aggregate.specs.Any.{is_signed_value};
 
 use crate::pipeline::about::About;
-use crate::pipeline::each_stream::{
-    commit_bind_each, commit_each, prepare_bind_each, prepare_each, record_held_each,
-    record_none_each, streams_fed, unbind_each,
-};
+use crate::pipeline::change::Change;
+use crate::pipeline::each_stream::{change_each, prepare_each, streams_fed};
 use crate::pipeline::metric_stream::MetricStream;
 use crate::pipeline::observing::collect_observed;
 use indexmap::IndexSet;
@@ -36,6 +34,7 @@ use std::marker::Model;
 pub mod about;
 pub(crate) mod aggregations;
 mod building;
+pub(crate) mod change;
 mod collecting;
 pub mod defaults;
 pub mod demands;
@@ -126,8 +125,8 @@ impl Pipeline {
         !streams_fed(&self.feeds, instrument).is_empty()
     }
 
-    /// Prepares a record with these attributes in the streams that the instrument feeds. What the reader has stays
-    /// unchanged.
+    /// Prepares a record with these attributes or, if `binds`, a bind, in the streams that the instrument feeds; for a
+    /// bind it makes room for the handle there too. What the reader has stays unchanged.
     ///
     /// Looks the attributes up in each of these streams; `AggregateStream::prepare` tells when that takes memory.
     #[inline(always)]
@@ -135,31 +134,33 @@ impl Pipeline {
         &mut self,
         instrument: usize,
         attributes: &GivenAttributes,
+        binds: bool,
     ) -> Result<(), AllocError>
         ensures same { part_of self.new ≡ part_of self.old }
-        ensures prepared { OnOk result (IsPreparedFor instrument attributes.now self.new) }
-        ensures free { attributes.now ≡ [] → IsOk result }
-        ensures known { is_known_at instrument attributes.now (part_of self.old) ≡ true → IsOk result }
+        ensures ready { OnOk result (IsReadyFor binds instrument attributes.now self.new) }
+        ensures known { binds ≡ false → is_known_at instrument attributes.now (part_of self.old) ≡ true → IsOk result }
     {
         self.law_of_identities();
         prepare_each(
             &mut self.streams,
             streams_fed(&self.feeds, instrument),
             attributes,
+            binds,
         )
     }
 
-    /// Takes in the prepared record in the streams that the instrument feeds. Takes no memory, and looks nothing up
-    /// for a set that has an entry.
+    /// Carries a change out in the streams that the instrument feeds, and returns the place of the handle that it bound in
+    /// one of them; 0 if it bound none. Takes no memory, and looks no set up.
     #[inline(always)]
-    pub fn commit(&mut self, instrument: usize, value: NumberValue)
-        ensures { part_of self.new ≡ part_after_record instrument value self.old }
+    pub fn change(&mut self, instrument: usize, change: Change) -> usize
+        ensures { (next : ℕ) (call : model.Call) → Makes instrument change next call self.old → part_of self.new ≡ part_after_call next call (part_of self.old) }
     {
-        commit_each(
-            &mut self.streams,
-            streams_fed(&self.feeds, instrument),
-            value,
-        );
+        self.law_of_identities();
+        let feeds = streams_fed(&self.feeds, instrument);
+        if feeds.len() == 1 {
+            return self.streams[feeds[0]].change(change);
+        }
+        change_each(&mut self.streams, feeds, change)
     }
 
     /// Makes a record with these attributes in all streams that the instrument feeds or in none, in one pass if it feeds
@@ -200,90 +201,9 @@ impl Pipeline {
     {
         let streams = streams_fed(&self.feeds, instrument).len();
         let given = attributes.hashed_for(streams, self.hasher);
-        self.prepare(instrument, &given)?;
-        self.commit(instrument, value);
+        self.prepare(instrument, &given, false)?;
+        self.change(instrument, Change::Prepared(value));
         Ok(())
-    }
-
-    /// Makes a record without attributes in the streams that the instrument feeds. Looks nothing up, and takes no
-    /// memory.
-    #[inline(always)]
-    pub fn record_none(&mut self, instrument: usize, value: NumberValue)
-        requires { FeedsType instrument (is_signed_value value) (part_of self.old) }
-        ensures { part_of self.new ≡ part_after_call 0 (model.Call.Record instrument (number_of value) []) (part_of self.old) }
-    {
-        self.law_of_identities();
-        let feeds = streams_fed(&self.feeds, instrument);
-        if feeds.len() == 1 {
-            self.streams[feeds[0]].record_none(value);
-            return;
-        }
-        record_none_each(&mut self.streams, feeds, value);
-    }
-
-    /// Prepares a bind to these attributes in the streams that the instrument feeds, and makes room for its handle
-    /// there. What the reader has stays unchanged.
-    ///
-    /// Looks the attributes up in each of these streams.
-    pub fn prepare_bind(
-        &mut self,
-        instrument: usize,
-        attributes: &GivenAttributes,
-    ) -> Result<(), Fault>
-        ensures same { part_of self.new ≡ part_of self.old }
-        ensures ready { OnOk result (IsReadyToBindAt instrument attributes.now self.new) }
-        ensures only_memory { IsOkUnless result Fault.OutOfMemory }
-    {
-        self.law_of_identities();
-        prepare_bind_each(
-            &mut self.streams,
-            streams_fed(&self.feeds, instrument),
-            attributes,
-        )
-    }
-
-    /// Carries out the prepared bind in the streams that the instrument feeds, for this handle, and returns its place in
-    /// one of them, for `record_held`; 0 if there is none. Takes no memory.
-    pub fn commit_bind(&mut self, instrument: usize, handle: u64) -> usize
-        ensures { part_of self.new ≡ part_after_bind instrument handle self.old }
-    {
-        commit_bind_each(
-            &mut self.streams,
-            streams_fed(&self.feeds, instrument),
-            handle,
-        )
-    }
-
-    /// Makes a record through a handle in the streams that its instrument feeds. Looks for the handle at this place
-    /// first, and looks it up in a stream only if it is not there. Takes no memory.
-    #[inline(always)]
-    pub fn record_held(&mut self, instrument: usize, handle: u64, place: usize, value: NumberValue)
-        requires typed { FeedsType instrument (is_signed_value value) (part_of self.old) }
-        requires synchronous { FeedsSynchronous instrument (part_of self.old) }
-        requires held { IsHeldByFed instrument handle (part_of self.old) }
-        ensures { part_of self.new ≡ part_after_call 0 (model.Call.RecordBound handle (number_of value)) (part_of self.old) }
-    {
-        self.law_of_identities();
-        let feeds = streams_fed(&self.feeds, instrument);
-        if feeds.len() == 1 {
-            self.streams[feeds[0]].record_held(handle, place, value);
-            return;
-        }
-        record_held_each(&mut self.streams, feeds, handle, place, value);
-    }
-
-    /// Ends a handle in the streams that its instrument feeds. Takes no memory.
-    pub fn unbind(&mut self, instrument: usize, handle: u64)
-        requires synchronous { FeedsSynchronous instrument (part_of self.old) }
-        requires held { IsHeldByFed instrument handle (part_of self.old) }
-        ensures { part_of self.new ≡ part_after_call 0 (model.Call.Unbind handle) (part_of self.old) }
-    {
-        self.law_of_identities();
-        unbind_each(
-            &mut self.streams,
-            streams_fed(&self.feeds, instrument),
-            handle,
-        );
     }
 
     /// Takes in what was observed, and makes a collection at the moment `now`, in nanoseconds since 1970, for the

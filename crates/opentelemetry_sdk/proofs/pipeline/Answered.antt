@@ -16,7 +16,9 @@ use Rattle.otel_model.specs.Sent.{set_for}
 use Rattle.otel_model.specs.Streams.{is_drained}
 use Rattle.opentelemetry_sdk.specs.pipeline.Observations.{observed_all, observed_in, observing_numbers}
 use Rattle.opentelemetry_sdk.specs.pipeline.Pipelines.{all_without_pending}
-use Rattle.opentelemetry_sdk.specs.pipeline.Streams.{StreamContents, contents_after_bind, bound_by, contents_after_commit, committed_by, contents_after_none, contents_after_record, contents_after_unbind, without_handle, contents_after_update, with_update, with_record, without_pending}
+use Rattle.opentelemetry_sdk.specs.declared.pipeline.change.Change.{Change}
+use Rattle.opentelemetry_sdk.specs.declared.pipeline.change.Change.TheVariants as change
+use Rattle.opentelemetry_sdk.specs.pipeline.Streams.{StreamContents, bound_by, committed_by, contents_after, contents_after_record, takes, without_handle, with_update, with_record, without_pending}
 use Rattle.opentelemetry_sdk.proofs.pipeline.Writes.{unseen-each}
 
 abbrev pub answer_of : StreamContents → Bool × Demand
@@ -31,15 +33,20 @@ kept-if : (b : Bool) (m n k : StreamContents) → answer_of m ≡ answer_of k �
 kept-if true m n k p q = p
 kept-if false m n k p q = q
 
-pub commits : (value : NumberValue) → KeepsAnswer (contents_after_commit value)
-commits value k = kept-if (beq (is_signed_value value) k.stream.demand.identity.signed) (committed_by k.pending (amount_of value) k) k k (by k.pending) refl
+pub changes : (c : Change) → KeepsAnswer (contents_after c)
+changes (change.Prepared value) k = kept-if (takes value k) (committed_by k.pending (amount_of value) k) k k (by k.pending) refl
   where
     by : (o : Option AttributeSet) → answer_of (committed_by o (amount_of value) k) ≡ answer_of k
     by None = refl
     by (Some s) = refl
-
-pub measures : (value : NumberValue) → KeepsAnswer (contents_after_none value)
-measures value k = kept-if (beq (is_signed_value value) k.stream.demand.identity.signed) (with_record none_set (amount_of value) k) k k refl refl
+changes (change.Empty value) k = kept-if (takes value k) (with_record none_set (amount_of value) k) k k refl refl
+changes (change.Held h place value) k = kept-if (not (is_drained k.stream.demand) && takes value k) (with_update (held_by h k.stream.machine.live) (amount_of value) k) k k refl refl
+changes (change.Bind h) k = kept-if (not (is_observable k.stream.demand.identity.kind) && (k.room && is_none (held_by h k.stream.machine.live))) (bound_by k.pending h k) k k (by k.pending) refl
+  where
+    by : (o : Option AttributeSet) → answer_of (bound_by o h k) ≡ answer_of k
+    by None = refl
+    by (Some s) = refl
+changes (change.Unbind h) k = kept-if (is_drained k.stream.demand) k (without_handle h k) k refl refl
 
 pub records : (value : NumberValue) (l : List KeyValue) → KeepsAnswer (contents_after_record value l)
 records value l k = kept-if (beq (is_signed_value value) k.stream.demand.identity.signed) (with_record (set_for k.stream.demand l) (amount_of value) k) k k refl refl
@@ -48,19 +55,6 @@ records value l k = kept-if (beq (is_signed_value value) k.stream.demand.identit
 pub records-either : {T E : Type 0} (value : NumberValue) (l : List KeyValue) (k m : StreamContents) (r : Result T E) → OnOk r (m ≡ contents_after_record value l k) → OnErr r (without_pending m ≡ without_pending k) → answer_of m ≡ answer_of k
 records-either value l k m (Ok t) is same = ap answer_of is ∙ records value l k
 records-either value l k m (Err e) is same = ap answer_of same
-
-pub binds : (h : ℕ) → KeepsAnswer (contents_after_bind h)
-binds h k = kept-if (not (is_observable k.stream.demand.identity.kind) && (k.room && is_none (held_by h k.stream.machine.live))) (bound_by k.pending h k) k k (by k.pending) refl
-  where
-    by : (o : Option AttributeSet) → answer_of (bound_by o h k) ≡ answer_of k
-    by None = refl
-    by (Some s) = refl
-
-pub updates : (h : ℕ) (value : NumberValue) → KeepsAnswer (contents_after_update h value)
-updates h value k = kept-if (not (is_drained k.stream.demand) && beq (is_signed_value value) k.stream.demand.identity.signed) (with_update (held_by h k.stream.machine.live) (amount_of value) k) k k refl refl
-
-pub unbinds : (h : ℕ) → KeepsAnswer (contents_after_unbind h)
-unbinds h k = kept-if (is_drained k.stream.demand) k (without_handle h k) k refl refl
 
 -- ======== what is done to streams ========
 pub answers-settled : (a b : List StreamContents) → all_without_pending a ≡ all_without_pending b → map answer_of a ≡ map answer_of b

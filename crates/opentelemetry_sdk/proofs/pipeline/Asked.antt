@@ -13,7 +13,8 @@ use Rattle.otel_model.specs.Machine.{if_held}
 use Rattle.otel_model.specs.Streams.{aggregate_of}
 use Rattle.otel_aggregate.specs.Any.{is_signed_value, amount_of, any_after_update, any_after_unbind, is_updated, takes_bound}
 use Rattle.otel_aggregate.specs.Streams.{AggregateState, AggregateContents, recorded_set, stream_after_unbind, taken_from, unbind_at, update_at}
-use Rattle.opentelemetry_sdk.specs.pipeline.Streams.{StreamContents, IsAsked, asked_aggregate, contents_of, with_record, with_update, contents_after_update, contents_after_unbind, committed_by, without_handle}
+use Rattle.opentelemetry_sdk.specs.declared.pipeline.change.Change.TheVariants as change
+use Rattle.opentelemetry_sdk.specs.pipeline.Streams.{StreamContents, IsAsked, asked_aggregate, contents_of, with_record, with_update, contents_after, committed_by, without_handle}
 
 -- ======== the aggregate that was asked for ========
 -- a record leaves the aggregate the one that was asked for
@@ -105,7 +106,7 @@ asked-used d a false o v is = is
 pub asked-updated : (d : Demand) (a new : AggregateContents) (h : ℕ) (value : NumberValue) → IsAsked d a → new ≡ any_after_update h value a → IsAsked d new
 asked-updated d a new h value is e = subst (IsAsked d) (sym e) (asked-used d a (takes_bound value a) (held_by h a.live) (amount_of value) is)
 
-module _ (d : Demand) (a : AggregateContents) (h : ℕ) (value : NumberValue) (recorded exported : ℕ) (is : IsAsked d a) where
+module _ (d : Demand) (a : AggregateContents) (h place : ℕ) (value : NumberValue) (recorded exported : ℕ) (is : IsAsked d a) where
   abbrev seen : StreamContents
   seen = contents_of d a recorded exported
 
@@ -139,13 +140,13 @@ module _ (d : Demand) (a : AggregateContents) (h : ℕ) (value : NumberValue) (r
   used-else true None t = used-as None
   used-else false o t = refl
 
-  same-test : cond (takes_bound value a) (with_update (held_by h a.live) (amount_of value) seen) seen ≡ contents_after_update h value seen
+  same-test : cond (takes_bound value a) (with_update (held_by h a.live) (amount_of value) seen) seen ≡ contents_after (change.Held h place value) seen
   same-test = λ i. cond (not (is.drains i) && beq (is_signed_value value) (is.signed i)) (with_update (held_by h a.live) (amount_of value) seen) seen
 
-  pub update-then : (new : AggregateContents) → new ≡ any_after_update h value a → is_updated h value a ≡ true → contents_of d new total exported ≡ contents_after_update h value seen
+  pub update-then : (new : AggregateContents) → new ≡ any_after_update h value a → is_updated h value a ≡ true → contents_of d new total exported ≡ contents_after (change.Held h place value) seen
   update-then new e t = ap (λ x. contents_of d x total exported) e ∙ (used-then (takes_bound value a) (held_by h a.live) t ∙ same-test)
 
-  pub update-else : (new : AggregateContents) → new ≡ any_after_update h value a → is_updated h value a ≡ false → contents_of d new recorded exported ≡ contents_after_update h value seen
+  pub update-else : (new : AggregateContents) → new ≡ any_after_update h value a → is_updated h value a ≡ false → contents_of d new recorded exported ≡ contents_after (change.Held h place value) seen
   update-else new e t = ap (λ x. contents_of d x recorded exported) e ∙ (used-else (takes_bound value a) (held_by h a.live) t ∙ same-test)
 
 -- ======== the end of a handle ========
@@ -173,11 +174,11 @@ module _ (d : Demand) (a : AggregateContents) (h recorded exported : ℕ) (is : 
   ended-as None e = ap (λ (l : Handles). ended_with (record { table = a.state.map_state.table; live = l })) (without-none h a.live e)
   ended-as (Some g) e = refl
 
-  ended-by : (b : Bool) → a.drains ≡ b → contents_of d (cond b a (stream_after_unbind h a)) recorded exported ≡ contents_after_unbind h (contents_of d a recorded exported)
+  ended-by : (b : Bool) → a.drains ≡ b → contents_of d (cond b a (stream_after_unbind h a)) recorded exported ≡ contents_after (change.Unbind h) (contents_of d a recorded exported)
   ended-by true e = ap (λ c. cond c (contents_of d a recorded exported) (without_handle h (contents_of d a recorded exported))) (sym e ∙ is.drains)
   ended-by false e =
       ended-as (held_by h a.live) refl
       ∙ ap (λ c. cond c (contents_of d a recorded exported) (without_handle h (contents_of d a recorded exported))) (sym e ∙ is.drains)
 
-  pub unbind-as : (new : AggregateContents) → new ≡ any_after_unbind h a → contents_of d new recorded exported ≡ contents_after_unbind h (contents_of d a recorded exported)
+  pub unbind-as : (new : AggregateContents) → new ≡ any_after_unbind h a → contents_of d new recorded exported ≡ contents_after (change.Unbind h) (contents_of d a recorded exported)
   unbind-as new e = ap (λ (x : AggregateContents). contents_of d x recorded exported) e ∙ ended-by a.drains refl

@@ -10,18 +10,20 @@ use Rattle.otel_model_stream.specs.Folds.{Amount, sample_of, wrap}
 use Rattle.otel_model_stream.specs.Machine.{through, let_go}
 use Rattle.otel_model_stream.specs.Sets.{AttributeSet}
 use Rattle.otel_model_stream.specs.Totals.{has_number, size}
-use Rattle.otel_model.specs.Calls.{InstrumentKind, Counter, UpDownCounter, Histogram, ObservableCounter, ObservableUpDownCounter, Gauge, ObservableGauge, is_observable, Number, Bind, RecordBound, Unbind}
+use Rattle.otel_model.specs.Calls.{InstrumentKind, Counter, UpDownCounter, Histogram, ObservableCounter, ObservableUpDownCounter, Gauge, ObservableGauge, is_observable, Number, Call, Bind, RecordBound, Unbind}
 use Rattle.otel_model.specs.Demands as model
 use Rattle.otel_model.specs.Machine.{stream_after, part_after_call, if_held}
 use Rattle.otel_model.specs.Sent.{is_fed, set_for}
 use Rattle.otel_model.specs.State.{Stream}
 use Rattle.otel_model.specs.Streams.{aggregate_of, is_drained, observes_sums}
-use Rattle.opentelemetry_sdk.specs.pipeline.Handles.{FeedsSynchronous, AreObservableFor, IsNewAt, IsHeldByFed, IsReadyToBind, IsReadyIfThere, IsReadyToBindAt, part_after_bind}
+use Rattle.opentelemetry_sdk.specs.declared.pipeline.change.Change.{Change}
+use Rattle.opentelemetry_sdk.specs.declared.pipeline.change.Change.TheVariants as change
+use Rattle.opentelemetry_sdk.specs.pipeline.Handles.{FeedsSynchronous, AreObservableFor, IsNewAt, IsHeldByFed, Makes}
 use Rattle.opentelemetry_sdk.specs.pipeline.Observations.{AreObservableIn}
-use Rattle.opentelemetry_sdk.specs.pipeline.Pipelines.{Piped, IsLawful, FeedsType, identity_of, is_streamed, model_streams, named_identities, number_of, part_of, part_changed_by, fed_by}
-use Rattle.opentelemetry_sdk.specs.pipeline.Streams.{StreamContents, with_bind, bound_by, contents_after_bind, with_update, contents_after_update, without_handle, contents_after_unbind}
-use Rattle.opentelemetry_sdk.proofs.pipeline.Answered.{binds, unbinds, updates}
-use Rattle.opentelemetry_sdk.proofs.pipeline.Records.{each-sent, fed-at, fits, some_same, there-at, typed-fits}
+use Rattle.opentelemetry_sdk.specs.pipeline.Pipelines.{Piped, IsLawful, IsReady, IsReadyFor, IsReadyIfThere, FeedsType, identity_of, is_streamed, model_streams, named_identities, number_of, part_of, part_changed_by, fed_by}
+use Rattle.opentelemetry_sdk.specs.pipeline.Streams.{StreamContents, with_bind, bound_by, contents_after, with_update, without_handle}
+use Rattle.opentelemetry_sdk.proofs.pipeline.Answered.{changes}
+use Rattle.opentelemetry_sdk.proofs.pipeline.Records.{each-sent, fed-at, fits, none-sent, recorded-sent, some_same, there-at, typed-fits}
 
 -- ======== kinds ========
 drained-by : (kind : InstrumentKind) → is_observable kind ≡ false → observes_sums kind ≡ false
@@ -85,12 +87,12 @@ bind-if answers h n l feeds k false e = rw e refl
 abbrev can_bind : ℕ → StreamContents → Bool
 can_bind h k = not (is_observable k.stream.demand.identity.kind) && (k.room && is_none (held_by h k.stream.machine.live))
 
-pub bound-sent : (h n : ℕ) (l : List KeyValue) (p : Piped) → IsReadyToBindAt n l p → FeedsSynchronous n (part_of p) → IsNewAt h (part_of p) → part_after_bind n h p ≡ part_after_call h (Bind n l) (part_of p)
-bound-sent h n l p ready sync new = each-sent p ready.lawful h n (Bind n l) (contents_after_bind h) (binds h)
+pub bound-sent : (h n : ℕ) (l : List KeyValue) (p : Piped) → IsLawful p → IsReadyFor true n l p → FeedsSynchronous n (part_of p) → IsNewAt h (part_of p) → part_changed_by (contents_after (change.Bind h)) n p ≡ part_after_call h (Bind n l) (part_of p)
+bound-sent h n l p lawful ready sync new = each-sent p lawful h n (Bind n l) (contents_after (change.Bind h)) (changes (change.Bind h))
     (λ i k at s t fed.
-    let is : IsReadyToBind l k = there-at (IsReadyIfThere l) p.streams (fed_by n p) ready.ready i k at t in
+    let is : IsReady true l k = there-at (IsReadyIfThere true l) p.streams (fed_by n p) ready i k at t in
     let kind : is_observable k.stream.demand.identity.kind ≡ false = sync (identity_of k) fed in
-    let room : k.room ≡ true = is.room ∙ ap not (undrained k.stream.demand kind) in
+    let room : k.room ≡ true = is.room refl ∙ ap not (undrained k.stream.demand kind) in
     let away : held_by h k.stream.machine.live ≡ None = of-streamed (λ (q : Stream). held_by h q.machine.live ≡ None) p.streams new i k at s in
     let can : can_bind h k ≡ true = λ j. not (kind j) && (room j && is_none (away j)) in
     bind-if p.answers h n l (map (named_identities p.streams) p.feeds) k true fed
@@ -127,18 +129,27 @@ module _ (n h : ℕ) (p : Piped) (lawful : IsLawful p) (sync : FeedsSynchronous 
   unfed-free i k at s fed = of-streamed (λ (q : Stream). is_fed (map (named_identities p.streams) p.feeds) n q.demand.identity ≡ false → held_by h q.machine.live ≡ None) p.streams held i k at s fed
 
   -- records through handles
-  pub update-sent : (value : NumberValue) → FeedsType n (is_signed_value value) (part_of p) → part_changed_by (contents_after_update h value) n p ≡ part_after_call 0 (RecordBound h (number_of value)) (part_of p)
-  update-sent value typed = each-sent p lawful 0 n (RecordBound h (number_of value)) (contents_after_update h value) (updates h value)
+  update-sent : (next place : ℕ) (value : NumberValue) → FeedsType n (is_signed_value value) (part_of p) → part_changed_by (contents_after (change.Held h place value)) n p ≡ part_after_call next (RecordBound h (number_of value)) (part_of p)
+  update-sent next place value typed = each-sent p lawful next n (RecordBound h (number_of value)) (contents_after (change.Held h place value)) (changes (change.Held h place value))
       (λ i k at s t fed.
       let free : is_drained k.stream.demand ≡ false = undrained k.stream.demand (sync (identity_of k) fed) in
       let fit : fits value k.stream.demand ≡ true = typed-fits n value (part_of p) k.stream.demand typed fed in
       λ j. (cond (not (sym free j) && sym fit j) (with_update (held_by h k.stream.machine.live) (amount_of value) k) k).stream)
-      (λ i k at s fed. update-is p.answers (map (named_identities p.streams) p.feeds) 0 h (number_of value) k.stream None (unfed-free i k at s fed))
+      (λ i k at s fed. update-is p.answers (map (named_identities p.streams) p.feeds) next h (number_of value) k.stream None (unfed-free i k at s fed))
 
   -- the end of handles
-  pub unbind-sent : part_changed_by (contents_after_unbind h) n p ≡ part_after_call 0 (Unbind h) (part_of p)
-  unbind-sent = each-sent p lawful 0 n (Unbind h) (contents_after_unbind h) (unbinds h)
+  unbind-sent : (next : ℕ) → part_changed_by (contents_after (change.Unbind h)) n p ≡ part_after_call next (Unbind h) (part_of p)
+  unbind-sent next = each-sent p lawful next n (Unbind h) (contents_after (change.Unbind h)) (changes (change.Unbind h))
       (λ i k at s t fed.
       let free : is_drained k.stream.demand ≡ false = undrained k.stream.demand (sync (identity_of k) fed) in
       λ j. (cond (sym free j) k (without_handle h k)).stream)
-      (λ i k at s fed. unbind-is p.answers (map (named_identities p.streams) p.feeds) 0 h k.stream None (unfed-free i k at s fed))
+      (λ i k at s fed. unbind-is p.answers (map (named_identities p.streams) p.feeds) next h k.stream None (unfed-free i k at s fed))
+
+-- ======== changes ========
+-- a change is the call that it makes
+pub change-sent : (n : ℕ) (c : Change) (next : ℕ) (call : Call) (p : Piped) → IsLawful p → Makes n c next call p → part_changed_by (contents_after c) n p ≡ part_after_call next call (part_of p)
+change-sent n (change.Prepared value) next call p lawful makes = recorded-sent next n value makes.0 p lawful makes.2 makes.3 ∙ ap (λ x. part_after_call next x (part_of p)) (sym makes.1)
+change-sent n (change.Empty value) next call p lawful makes = none-sent next n value p lawful makes.1 ∙ ap (λ x. part_after_call next x (part_of p)) (sym makes.0)
+change-sent n (change.Held h place value) next call p lawful makes = update-sent n h p lawful makes.2 makes.3 next place value makes.1 ∙ ap (λ x. part_after_call next x (part_of p)) (sym makes.0)
+change-sent n (change.Bind h) next call p lawful makes = bound-sent h n makes.0 p lawful makes.3 makes.4 makes.5 ∙ λ i. part_after_call (makes.2 i) (sym makes.1 i) (part_of p)
+change-sent n (change.Unbind h) next call p lawful makes = unbind-sent n h p lawful makes.1 makes.2 next ∙ ap (λ x. part_after_call next x (part_of p)) (sym makes.0)

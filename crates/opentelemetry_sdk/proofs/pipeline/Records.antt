@@ -19,9 +19,10 @@ use Rattle.otel_model.specs.Machine.{stream_after, part_after_call}
 use Rattle.otel_model.specs.Sent.{is_fed, set_for}
 use Rattle.otel_model.specs.State.{ReaderPart, Stream}
 use Rattle.otel_model.proofs.Gather.{identity_eq_self}
-use Rattle.opentelemetry_sdk.specs.pipeline.Pipelines.{fates_of, named_identities, identity_at, identity_of, is_streamed, model_streams, part_of, Piped, AreNumbers, IsLawful, IsPrepared, IsPreparedFor, changed_each, fed_by, number_of, part_after_record, part_changed_by, FeedsType}
-use Rattle.opentelemetry_sdk.specs.pipeline.Streams.{StreamContents, with_record, contents_after_commit, contents_after_none, contents_after_record, committed_by}
-use Rattle.opentelemetry_sdk.proofs.pipeline.Answered.{KeepsAnswer, commits, measures, records}
+use Rattle.opentelemetry_sdk.specs.pipeline.Pipelines.{fates_of, named_identities, identity_at, identity_of, is_streamed, model_streams, part_of, Piped, AreNumbers, IsLawful, IsReadyFor, IsReadyIfThere, changed_each, fed_by, number_of, part_changed_by, FeedsType}
+use Rattle.opentelemetry_sdk.specs.declared.pipeline.change.Change.TheVariants as change
+use Rattle.opentelemetry_sdk.specs.pipeline.Streams.{StreamContents, with_record, contents_after, contents_after_record, committed_by}
+use Rattle.opentelemetry_sdk.proofs.pipeline.Answered.{KeepsAnswer, changes, records}
 use Rattle.opentelemetry_sdk.proofs.pipeline.Identities.{AreApart, are_apart}
 use Rattle.opentelemetry_sdk.proofs.pipeline.NoAttributes.{set_of-nil}
 use Rattle.opentelemetry_sdk.proofs.pipeline.Once.{changed_in, fed-once, fold-once}
@@ -153,11 +154,11 @@ record-sent p lawful next n value l typed f keeps made = each-sent p lawful next
     (λ i k at s h fed. sent-if p.answers next n (number_of value) l (map (named_identities p.streams) p.feeds) k true fed ∙ made i k at h (typed-fits n value (part_of p) k.stream.demand typed fed))
     (λ i k at s fed. sent-if p.answers next n (number_of value) l (map (named_identities p.streams) p.feeds) k false fed)
 
-pub recorded-sent : (next n : ℕ) (value : NumberValue) (l : List KeyValue) (p : Piped) → IsPreparedFor n l p → FeedsType n (is_signed_value value) (part_of p)
-    → part_after_record n value p ≡ part_after_call next (RecordCall n (number_of value) l) (part_of p)
-recorded-sent next n value l p ready typed = record-sent p ready.lawful next n value l typed (contents_after_commit value) (commits value)
+pub recorded-sent : (next n : ℕ) (value : NumberValue) (l : List KeyValue) (p : Piped) → IsLawful p → IsReadyFor false n l p → FeedsType n (is_signed_value value) (part_of p)
+    → part_changed_by (contents_after (change.Prepared value)) n p ≡ part_after_call next (RecordCall n (number_of value) l) (part_of p)
+recorded-sent next n value l p lawful ready typed = record-sent p lawful next n value l typed (contents_after (change.Prepared value)) (changes (change.Prepared value))
     (λ i k at h fit.
-    ap (λ o. (committed_by o (amount_of value) k).stream) (sym (there-at (IsPrepared l) p.streams (fed_by n p) ready.prepared i k at h))
+    ap (λ o. (committed_by o (amount_of value) k).stream) (sym (there-at (IsReadyIfThere false l) p.streams (fed_by n p) ready i k at h).set)
     ∙ ap (λ b. (cond b (committed_by k.pending (amount_of value) k) k).stream) (sym fit))
 
 -- a record in one pass
@@ -166,8 +167,8 @@ taken-sent n value l p lawful typed = record-sent p lawful 0 n value l typed (co
     (λ i k at h fit. ap (λ b. (cond b (with_record (set_for k.stream.demand l) (amount_of value) k) k).stream) (sym fit))
 
 -- a record without attributes
-pub none-sent : (n : ℕ) (value : NumberValue) (p : Piped) → IsLawful p → FeedsType n (is_signed_value value) (part_of p) → part_changed_by (contents_after_none value) n p ≡ part_after_call 0 (RecordCall n (number_of value) []) (part_of p)
-none-sent n value p lawful typed = record-sent p lawful 0 n value [] typed (contents_after_none value) (measures value)
+pub none-sent : (next n : ℕ) (value : NumberValue) (p : Piped) → IsLawful p → FeedsType n (is_signed_value value) (part_of p) → part_changed_by (contents_after (change.Empty value)) n p ≡ part_after_call next (RecordCall n (number_of value) []) (part_of p)
+none-sent next n value p lawful typed = record-sent p lawful next n value [] typed (contents_after (change.Empty value)) (changes (change.Empty value))
     (λ i k at h fit.
     ap (λ set. (with_record set (amount_of value) k).stream) (set_of-nil k.stream.demand.allow)
     ∙ ap (λ b. (cond b (with_record none_set (amount_of value) k) k).stream) (sym fit))

@@ -9,9 +9,9 @@ use Rattle.otel_model.specs.Demands.{Identity, Demand, ReaderAnswers, identity_e
 use Rattle.otel_model.specs.State.{Stream, ReaderPart}
 use Rattle.otel_model.specs.Machine.{changed_at, part_after_demand}
 use Rattle.otel_model.specs.Sent.{is_fed, set_for}
-use Rattle.otel_model.specs.Streams.{is_delta}
+use Rattle.otel_model.specs.Streams.{is_delta, is_drained}
 use Rattle.otel_model_stream.specs.Totals.{has_number}
-use Rattle.opentelemetry_sdk.specs.pipeline.Streams.{StreamContents, contents_after_commit, without_pending, contents_after_collection}
+use Rattle.opentelemetry_sdk.specs.pipeline.Streams.{StreamContents, without_pending, contents_after_collection}
 
 -- a reader's answers; its streams, in order of making; for each instrument the numbers of those that it feeds; and the
 -- seed from which it hashes the sets of records. A demand that drops is kept among the streams, so that it is known
@@ -162,23 +162,28 @@ changed_each f ns xs = fold (λ ys n. changed_at n f ys) xs ns
 abbrev pub fed_by : ℕ → Piped → List ℕ
 fed_by instrument p = or_else (slice_get p.feeds instrument) []
 
--- the stream, if there is one, is ready for a record of these attributes
-abbrev pub IsPrepared : List KeyValue → Option StreamContents → Type 0
-IsPrepared l None = Unit {0}
-IsPrepared l (Some h) = h.pending ≡ Some (set_for h.stream.demand l)
+-- the set of these attributes is prepared in the stream, for a record or, if it `binds`, for a bind: then room for a handle is
+-- made too, unless the stream is drained
+pub record IsReady (binds : Bool) (l : List KeyValue) (k : StreamContents) : Type 0 where
+  pub set : k.pending ≡ Some (set_for k.stream.demand l)
+  pub room : binds ≡ true → k.room ≡ not (is_drained k.stream.demand)
+
+-- the same of a stream, if there is one
+abbrev pub IsReadyIfThere : Bool → List KeyValue → Option StreamContents → Type 0
+IsReadyIfThere binds l None = Unit {0}
+IsReadyIfThere binds l (Some k) = IsReady binds l k
 
 -- the same of the streams with these numbers
-abbrev pub ArePrepared : List KeyValue → List StreamContents → List ℕ → Type 0
-ArePrepared l streams ns = All (λ n. IsPrepared l (slice_get streams n)) ns
+abbrev pub AreReady : Bool → List KeyValue → List StreamContents → List ℕ → Type 0
+AreReady binds l streams ns = All (λ n. IsReadyIfThere binds l (slice_get streams n)) ns
 
 -- the instrument feeds only streams with this number type
 abbrev pub FeedsType : ℕ → Bool → ReaderPart → Type 0
 FeedsType instrument signed p = (x : Identity) → is_fed p.feeds instrument x ≡ true → x.signed ≡ signed
 
--- the reader is ready for a record of these attributes at the instrument
-pub record IsPreparedFor (instrument : ℕ) (attributes : List KeyValue) (p : Piped) : Type 0 where
-  pub lawful : IsLawful p
-  pub prepared : ArePrepared attributes p.streams (fed_by instrument p)
+-- the same of the streams that the instrument feeds
+abbrev pub IsReadyFor : Bool → ℕ → List KeyValue → Piped → Type 0
+IsReadyFor binds instrument l p = AreReady binds l p.streams (fed_by instrument p)
 
 -- the streams, with nothing prepared and no room made
 abbrev pub all_without_pending : List StreamContents → List StreamContents
@@ -187,10 +192,6 @@ all_without_pending streams = map without_pending streams
 -- the reader's part, once f is done to each stream that the instrument feeds
 abbrev pub part_changed_by : (StreamContents → StreamContents) → ℕ → Piped → ReaderPart
 part_changed_by f instrument p = part_by p.answers (changed_each f (fed_by instrument p) p.streams) p.feeds
-
--- the same, once the prepared record is made
-abbrev pub part_after_record : ℕ → NumberValue → Piped → ReaderPart
-part_after_record instrument value p = part_changed_by (contents_after_commit value) instrument p
 
 -- ======== collections ========
 -- the streams after a collection at a moment

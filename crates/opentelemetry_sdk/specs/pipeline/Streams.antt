@@ -21,6 +21,8 @@ use Rattle.otel_model.specs.Machine.{if_held, new_stream}
 use Rattle.otel_model.specs.Sent.{set_for}
 use Rattle.otel_model.specs.State.{Stream}
 use Rattle.otel_model.specs.Streams.{aggregate_of, is_drained, is_monotonic_kind}
+use Rattle.opentelemetry_sdk.specs.declared.pipeline.change.Change.{Change}
+use Rattle.opentelemetry_sdk.specs.declared.pipeline.change.Change.TheVariants as change
 
 -- a stream, whether each collection resets it, the set of the prepared record or bind, if any, and whether room is made
 -- for a handle
@@ -85,6 +87,10 @@ abbrev pub new_contents : Bool → Demand → ℕ → StreamContents
 new_contents resets d now = record { stream = new_stream now d; resets = resets; pending = None; room = false }
 
 -- ======== records ========
+-- with the total of the records alone, once one is counted
+abbrev pub with_counted : Amount → StreamContents → StreamContents
+with_counted v h = record h { stream = record h.stream { recorded = wrap (h.stream.recorded + size (aggregate_of h.stream.demand) v) } }
+
 -- after a record of the set; nothing is prepared any more
 abbrev pub with_record : AttributeSet → Amount → StreamContents → StreamContents
 with_record s v h = record {
@@ -109,17 +115,9 @@ abbrev pub committed_by : Option AttributeSet → Amount → StreamContents → 
 committed_by None v h = h
 committed_by (Some s) v h = with_record s v h
 
--- after the prepared record, if there is one, of a value; a stream of the other number type doesn't change
-abbrev pub contents_after_commit : NumberValue → StreamContents → StreamContents
-contents_after_commit value h = cond (beq (is_signed_value value) h.stream.demand.identity.signed) (committed_by h.pending (amount_of value) h) h
-
 -- after a record of a value with attributes; a stream of the other number type doesn't change
 abbrev pub contents_after_record : NumberValue → List KeyValue → StreamContents → StreamContents
 contents_after_record value l h = cond (beq (is_signed_value value) h.stream.demand.identity.signed) (with_record (set_for h.stream.demand l) (amount_of value) h) h
-
--- after a record of a value without attributes; a stream of the other number type doesn't change
-abbrev pub contents_after_none : NumberValue → StreamContents → StreamContents
-contents_after_none value h = cond (beq (is_signed_value value) h.stream.demand.identity.signed) (with_record none_set (amount_of value) h) h
 
 -- the stream, with nothing prepared and no room made
 abbrev pub without_pending : StreamContents → StreamContents
@@ -147,11 +145,6 @@ abbrev pub bound_by : Option AttributeSet → ℕ → StreamContents → StreamC
 bound_by None h k = k
 bound_by (Some s) h k = with_bind h s k
 
--- after the prepared bind as this handle, if room is made and no such handle is live. A stream of an observable
--- instrument has no handles
-abbrev pub contents_after_bind : ℕ → StreamContents → StreamContents
-contents_after_bind h k = cond (not (is_observable k.stream.demand.identity.kind) && (k.room && is_none (held_by h k.stream.machine.live))) (bound_by k.pending h k) k
-
 -- after a record through a handle of this set's entry, if there is a set; what was prepared is given up
 abbrev pub with_update : Option AttributeSet → Amount → StreamContents → StreamContents
 with_update o v k = record {
@@ -167,11 +160,6 @@ with_update o v k = record {
   pending = None;
   room = k.room;
 }
-
--- after a record of a value through the handle with this number, if it is live. A drained stream has no handles, and a
--- stream of the other number type doesn't change
-abbrev pub contents_after_update : ℕ → NumberValue → StreamContents → StreamContents
-contents_after_update h value k = cond (not (is_drained k.stream.demand) && beq (is_signed_value value) k.stream.demand.identity.signed) (with_update (held_by h k.stream.machine.live) (amount_of value) k) k
 
 -- after the end of the handle with this number, if it is live; what was prepared is given up
 abbrev pub without_handle : ℕ → StreamContents → StreamContents
@@ -189,9 +177,19 @@ without_handle h k = record {
   room = k.room;
 }
 
--- the same; a drained stream has no handles
-abbrev pub contents_after_unbind : ℕ → StreamContents → StreamContents
-contents_after_unbind h k = cond (is_drained k.stream.demand) k (without_handle h k)
+-- ======== changes ========
+-- whether the stream has the number type of a value
+abbrev pub takes : NumberValue → StreamContents → Bool
+takes value k = beq (is_signed_value value) k.stream.demand.identity.signed
+
+-- after a change. A stream of the other number type takes no record in. A bind needs room, and a number that no live handle
+-- has; a stream of an observable instrument has no handles, and so has one that is drained
+abbrev pub contents_after : Change → StreamContents → StreamContents
+contents_after (change.Prepared value) k = cond (takes value k) (committed_by k.pending (amount_of value) k) k
+contents_after (change.Empty value) k = cond (takes value k) (with_record none_set (amount_of value) k) k
+contents_after (change.Held h place value) k = cond (not (is_drained k.stream.demand) && takes value k) (with_update (held_by h k.stream.machine.live) (amount_of value) k) k
+contents_after (change.Bind h) k = cond (not (is_observable k.stream.demand.identity.kind) && (k.room && is_none (held_by h k.stream.machine.live))) (bound_by k.pending h k) k
+contents_after (change.Unbind h) k = cond (is_drained k.stream.demand) k (without_handle h k)
 
 -- ======== collections ========
 -- how collections cut the stream's history into windows

@@ -1,17 +1,18 @@
 //! One stream of one reader.
 
-ghost use Rattle.std.specs.Prelude.{◌≡◌, nat_lt, true, [], Some, IfOk, IfSome, IsOk, OnOk, OnErr, IsOkUnless};
+ghost use Rattle.std.specs.Prelude.{◌≡◌, nat_lt, true, false, Some, IfOk, IfSome, IsOk, OnOk, OnErr, IsOkUnless};
 ghost use Rattle.std.specs.Option.{option_map};
 ghost use Rattle.otel_common.specs.Temporalities.{resets};
+ghost use Rattle.otel_aggregate.specs.Any.{amount_of};
 ghost use Rattle.otel_model.specs.Calls.{is_observable};
 ghost use Rattle.otel_model.specs.Collections.{number_of_points};
-ghost use Rattle.otel_model.specs.Sent.{set_for};
 ghost use Rattle.opentelemetry_sdk.specs.pipeline.Known.{is_known_to};
-ghost use Rattle.opentelemetry_sdk.specs.pipeline.Handles.{IsReadyToBind};
+ghost use Rattle.opentelemetry_sdk.specs.pipeline.Pipelines.{IsReady};
 ghost use Rattle.opentelemetry_sdk.specs.pipeline.Observations.{IsDraftOf, draft_of, drafted};
-ghost use Rattle.opentelemetry_sdk.specs.pipeline.Streams.{IsAsked, IsMakeable, contents_of, new_contents, without_pending, contents_after_commit, contents_after_none, contents_after_record, contents_after_bind, contents_after_update, contents_after_unbind, contents_after_collection, shown_metric, if_points};
+ghost use Rattle.opentelemetry_sdk.specs.pipeline.Streams.{IsAsked, IsMakeable, contents_of, new_contents, without_pending, with_counted, contents_after, contents_after_record, contents_after_collection, shown_metric, if_points};
 
 use crate::pipeline::aggregations::{is_observable, settings_of};
+use crate::pipeline::change::Change;
 use crate::pipeline::draft::StreamDraft;
 use otel_aggregate::aggregate_stream::AggregateStream;
 use otel_aggregate::value_map::hashed_key::GivenAttributes;
@@ -136,25 +137,34 @@ impl MetricStream {
         &self.demand
     }
 
-    /// Prepares a record with these attributes. What the stream shows stays unchanged.
+    /// Prepares a record with these attributes or, if `binds`, a bind, and then makes room for its handle too. What the
+    /// stream shows stays unchanged.
     #[inline(always)]
-    pub(crate) fn prepare(&mut self, attributes: &GivenAttributes) -> Result<(), AllocError>
+    pub(crate) fn prepare(
+        &mut self,
+        attributes: &GivenAttributes,
+        binds: bool,
+    ) -> Result<(), AllocError>
         ensures same { without_pending self.new ≡ without_pending self.old }
-        ensures ready { OnOk result (self.new.pending ≡ Some (set_for self.old.stream.demand attributes.now)) }
-        ensures free { attributes.now ≡ [] → IsOk result }
-        ensures known { is_known_to attributes.now self.old.stream ≡ true → IsOk result }
+        ensures ready { OnOk result (IsReady binds attributes.now self.new) }
+        ensures known { binds ≡ false → is_known_to attributes.now self.old.stream ≡ true → IsOk result }
     {
-        self.aggregate.prepare(attributes)
+        self.aggregate.prepare(attributes)?;
+        if !binds {
+            return Ok(());
+        }
+        match self.aggregate.make_room() {
+            Ok(()) => Ok(()),
+            Err(_) => Err(AllocError),
+        }
     }
 
-    /// Takes in the prepared record, if there is one and the value has the stream's number type.
+    /// Counts a record of a value in the total of all records.
     #[inline(always)]
-    pub(crate) fn commit(&mut self, value: NumberValue)
-        ensures { self.new ≡ contents_after_commit value self.old }
+    fn count(&mut self, value: NumberValue)
+        ensures { self.new ≡ with_counted (amount_of value) self.old }
     {
-        if self.aggregate.commit(value) {
-            self.recorded = self.recorded.wrapping_add(self.aggregate.size(value));
-        }
+        self.recorded = self.recorded.wrapping_add(self.aggregate.size(value));
     }
 
     /// Takes in a record with these attributes, if the value has the stream's number type.
@@ -169,58 +179,50 @@ impl MetricStream {
         ensures known { is_known_to attributes.now self.old.stream ≡ true → IsOk result }
     {
         if self.aggregate.measure(value, attributes)? {
-            self.recorded = self.recorded.wrapping_add(self.aggregate.size(value));
+            self.count(value);
         }
         Ok(())
     }
 
-    /// Takes in a record without attributes, if the value has the stream's number type. Takes no memory.
+    /// Carries a change out, and returns the place of the handle that it bound, for a record through it; 0 if it bound
+    /// none.
+    ///
+    /// A record is taken in if the value has the stream's number type; one that was prepared, if there is one; and one
+    /// through a handle, if the stream has it. A bind is made if one is prepared and the handle isn't live already.
     #[inline(always)]
-    pub(crate) fn record_none(&mut self, value: NumberValue)
-        ensures { self.new ≡ contents_after_none value self.old }
+    pub(crate) fn change(&mut self, change: Change) -> usize
+        ensures { self.new ≡ contents_after change self.old }
     {
-        if self.aggregate.measure_none(value) {
-            self.recorded = self.recorded.wrapping_add(self.aggregate.size(value));
+        match change {
+            Change::Prepared(value) => {
+                if self.aggregate.commit(value) {
+                    self.count(value);
+                }
+                0
+            }
+            Change::Empty(value) => {
+                if self.aggregate.measure_none(value) {
+                    self.count(value);
+                }
+                0
+            }
+            Change::Held(handle, place, value) => {
+                if self.aggregate.update_bound(handle, place, value) {
+                    self.count(value);
+                }
+                0
+            }
+            Change::Bind(handle) => {
+                if is_observable(self.demand.identity.kind) {
+                    return 0;
+                }
+                self.aggregate.commit_bind(handle)
+            }
+            Change::Unbind(handle) => {
+                self.aggregate.unbind(handle);
+                0
+            }
         }
-    }
-
-    /// Prepares a bind to these attributes, and makes room for its handle. What the stream shows stays unchanged.
-    pub(crate) fn prepare_bind(&mut self, attributes: &GivenAttributes) -> Result<(), Fault>
-        ensures same { without_pending self.new ≡ without_pending self.old }
-        ensures ready { OnOk result (IsReadyToBind attributes.now self.new) }
-        ensures only_memory { IsOkUnless result Fault.OutOfMemory }
-    {
-        self.prepare(attributes)?;
-        self.aggregate.make_room()
-    }
-
-    /// Carries out the prepared bind, if there is one, for a handle with this number, unless the handle is live
-    /// already, and returns the handle's place, for `record_held`.
-    pub(crate) fn commit_bind(&mut self, handle: u64) -> usize
-        ensures { self.new ≡ contents_after_bind handle self.old }
-    {
-        if is_observable(self.demand.identity.kind) {
-            return 0;
-        }
-        self.aggregate.commit_bind(handle)
-    }
-
-    /// Takes in a record through a handle, if the stream has the handle and the value has the stream's number type.
-    /// Looks for the handle at this place first. Takes no memory.
-    #[inline(always)]
-    pub(crate) fn record_held(&mut self, handle: u64, place: usize, value: NumberValue)
-        ensures { self.new ≡ contents_after_update handle value self.old }
-    {
-        if self.aggregate.update_bound(handle, place, value) {
-            self.recorded = self.recorded.wrapping_add(self.aggregate.size(value));
-        }
-    }
-
-    /// Ends the handle, if the stream has it. Takes no memory.
-    pub(crate) fn unbind(&mut self, handle: u64)
-        ensures { self.new ≡ contents_after_unbind handle self.old }
-    {
-        self.aggregate.unbind(handle);
     }
 
     /// Ends a collection, which gave the stream's points, at the moment `now`, in nanoseconds since 1970.

@@ -6,15 +6,16 @@ ghost use Rattle.std.specs.Option.{option_map};
 ghost use Rattle.otel_model.specs.Calls as model;
 ghost use Rattle.otel_model.specs.Machine as machine;
 ghost use Rattle.otel_model.specs.Machine.{part_after_call};
-ghost use Rattle.opentelemetry_sdk.specs.pipeline.Handles.{FeedsSynchronous, IsNewAt, IsHeldByFed, IsReadyToBindAt, part_after_bind};
+ghost use Rattle.opentelemetry_sdk.specs.pipeline.Handles.{FeedsSynchronous, IsNewAt, Makes};
 ghost use Rattle.opentelemetry_sdk.specs.pipeline.Known.{is_known_at};
-ghost use Rattle.opentelemetry_sdk.specs.pipeline.Pipelines.{part_of, has_stream_at, part_after_record, HashesFrom, IsPreparedFor};
+ghost use Rattle.opentelemetry_sdk.specs.pipeline.Pipelines.{part_of, has_stream_at, HashesFrom, IsReadyFor};
 ghost use Rattle.opentelemetry_sdk.specs.pipeline.Views.{views_answering};
 ghost use Rattle.opentelemetry_sdk.specs.Correspondence.{number_of};
 ghost use Rattle.opentelemetry_sdk.specs.States.{IsGoodIn, FeedType};
 
 use crate::pipeline::Pipeline;
 use crate::pipeline::about::About;
+use crate::pipeline::change::Change;
 use otel_aggregate::value_map::hashed_key::GivenAttributes;
 use otel_aggregate::value_map::hashing::SetHashBuilder;
 use otel_common::faults::Fault;
@@ -23,69 +24,36 @@ use otel_data::numbers::NumberValue;
 use otel_stream::stream::Stream;
 use std::alloc::AllocError;
 
-/// Prepares a record in the streams that an instrument feeds, at all readers.
+/// Prepares a record or, if `binds`, a bind in the streams that an instrument feeds, at all readers.
 #[inline(always)]
 fn prepare_all(
     pipelines: &mut [Pipeline],
     instrument: usize,
     attributes: &GivenAttributes,
+    binds: bool,
 ) -> Result<(), AllocError>
     ensures same { map part_of pipelines.new ≡ map part_of pipelines.old }
-    ensures prepared { OnOk result (All (IsPreparedFor instrument attributes.now) pipelines.new) }
-    ensures free { attributes.now ≡ [] → IsOk result }
-    ensures known { list_all (is_known_at instrument attributes.now) (map part_of pipelines.old) ≡ true → IsOk result }
+    ensures ready { OnOk result (All (IsReadyFor binds instrument attributes.now) pipelines.new) }
+    ensures known { binds ≡ false → list_all (is_known_at instrument attributes.now) (map part_of pipelines.old) ≡ true → IsOk result }
 {
     for i in 0..pipelines.len() {
-        pipelines[i].prepare(instrument, attributes)?;
+        pipelines[i].prepare(instrument, attributes, binds)?;
     }
     Ok(())
 }
 
-/// Makes the prepared record in the streams that an instrument feeds, at all readers.
+/// Carries a change out in the streams that an instrument feeds, at all readers, and returns the place of the handle that
+/// it bound in one of them. It mostly has the same place in all.
 #[inline(always)]
-fn commit_all(pipelines: &mut [Pipeline], instrument: usize, value: NumberValue)
-    ensures { map part_of pipelines.new ≡ map (part_after_record instrument value) pipelines.old }
+pub(crate) fn change_all(pipelines: &mut [Pipeline], instrument: usize, change: Change) -> usize
+    ensures { (next : ℕ) (call : model.Call) → All (Makes instrument change next call) pipelines.old → map part_of pipelines.new ≡ map (part_after_call next call) (map part_of pipelines.old) }
 {
-    for i in 0..pipelines.len() {
-        pipelines[i].commit(instrument, value);
+    if pipelines.len() == 1 {
+        return pipelines[0].change(instrument, change);
     }
-}
-
-/// Makes a record without attributes in the streams that an instrument feeds, at all readers.
-#[inline(never)]
-fn record_none_all(pipelines: &mut [Pipeline], instrument: usize, value: NumberValue)
-    requires { FeedType instrument (number_of value) (map part_of pipelines.old) }
-    ensures { map part_of pipelines.new ≡ map (part_after_call 0 (model.Call.Record instrument (number_of value) [])) (map part_of pipelines.old) }
-{
-    for i in 0..pipelines.len() {
-        pipelines[i].record_none(instrument, value);
-    }
-}
-
-/// Prepares a bind in the streams that an instrument feeds, at all readers.
-fn prepare_bind_all(
-    pipelines: &mut [Pipeline],
-    instrument: usize,
-    attributes: &GivenAttributes,
-) -> Result<(), Fault>
-    ensures same { map part_of pipelines.new ≡ map part_of pipelines.old }
-    ensures ready { OnOk result (All (IsReadyToBindAt instrument attributes.now) pipelines.new) }
-    ensures only_memory { IsOkUnless result Fault.OutOfMemory }
-{
-    for i in 0..pipelines.len() {
-        pipelines[i].prepare_bind(instrument, attributes)?;
-    }
-    Ok(())
-}
-
-/// Makes the prepared bind in the streams that an instrument feeds, at all readers, and returns the handle's place in one
-/// of them. It mostly has the same place in all.
-fn commit_bind_all(pipelines: &mut [Pipeline], instrument: usize, handle: u64) -> usize
-    ensures { map part_of pipelines.new ≡ map (part_after_bind instrument handle) pipelines.old }
-{
     let mut place = 0;
     for i in 0..pipelines.len() {
-        place = place.max(pipelines[i].commit_bind(instrument, handle));
+        place = place.max(pipelines[i].change(instrument, change));
     }
     place
 }
@@ -155,8 +123,8 @@ fn record_given(
     ensures known { list_all (is_known_at instrument attributes.now) (map part_of pipelines.old) ≡ true → IsOk result }
 {
     let given = given_at(pipelines, attributes);
-    prepare_all(pipelines, instrument, &given)?;
-    commit_all(pipelines, instrument, value);
+    prepare_all(pipelines, instrument, &given, false)?;
+    change_all(pipelines, instrument, Change::Prepared(value));
     Ok(())
 }
 
@@ -176,16 +144,12 @@ pub(crate) fn record_or_none(
     ensures known { list_all (is_known_at instrument attributes.now) (map part_of pipelines.old) ≡ true → IsOk result }
     ensures only_memory { IsOkUnless result Fault.OutOfMemory }
 {
-    if pipelines.len() == 1 {
-        if attributes.as_slice().is_empty() {
-            pipelines[0].record_none(instrument, value);
-            return Ok(());
-        }
-        pipelines[0].record(instrument, value, attributes)?;
+    if attributes.as_slice().is_empty() {
+        change_all(pipelines, instrument, Change::Empty(value));
         return Ok(());
     }
-    if attributes.as_slice().is_empty() {
-        record_none_all(pipelines, instrument, value);
+    if pipelines.len() == 1 {
+        pipelines[0].record(instrument, value, attributes)?;
         return Ok(());
     }
     record_given(pipelines, instrument, value, attributes)?;
@@ -207,41 +171,6 @@ pub(crate) fn bind_or_none(
     ensures only_memory { IsOkUnless result Fault.OutOfMemory }
 {
     let given = given_at(pipelines, attributes);
-    prepare_bind_all(pipelines, instrument, &given)?;
-    Ok(commit_bind_all(pipelines, instrument, handle))
-}
-
-/// Makes a record through a handle in the streams that its instrument feeds, at all readers. Looks for the handle at this
-/// place of theirs first.
-#[inline(always)]
-pub(crate) fn record_held(
-    pipelines: &mut [Pipeline],
-    instrument: usize,
-    handle: u64,
-    place: usize,
-    value: NumberValue,
-)
-    requires typed { FeedType instrument (number_of value) (map part_of pipelines.old) }
-    requires synchronous { EachOf (FeedsSynchronous instrument) (map part_of pipelines.old) }
-    requires held { EachOf (IsHeldByFed instrument handle) (map part_of pipelines.old) }
-    ensures { map part_of pipelines.new ≡ map (part_after_call 0 (model.Call.RecordBound handle (number_of value))) (map part_of pipelines.old) }
-{
-    if pipelines.len() == 1 {
-        pipelines[0].record_held(instrument, handle, place, value);
-        return;
-    }
-    for i in 0..pipelines.len() {
-        pipelines[i].record_held(instrument, handle, place, value);
-    }
-}
-
-/// Ends a handle in the streams that its instrument feeds, at all readers.
-pub(crate) fn unbind_held(pipelines: &mut [Pipeline], instrument: usize, handle: u64)
-    requires synchronous { EachOf (FeedsSynchronous instrument) (map part_of pipelines.old) }
-    requires held { EachOf (IsHeldByFed instrument handle) (map part_of pipelines.old) }
-    ensures { map part_of pipelines.new ≡ map (part_after_call 0 (model.Call.Unbind handle)) (map part_of pipelines.old) }
-{
-    for i in 0..pipelines.len() {
-        pipelines[i].unbind(instrument, handle);
-    }
+    prepare_all(pipelines, instrument, &given, true)?;
+    Ok(change_all(pipelines, instrument, Change::Bind(handle)))
 }

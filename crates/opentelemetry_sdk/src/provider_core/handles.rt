@@ -6,9 +6,10 @@ ghost use Rattle.otel_model.specs.Demands.{Views};
 ghost use Rattle.otel_model.specs.Steps.{Step};
 ghost use Rattle.opentelemetry_sdk.specs.Correspondence.{number_of, reply_from};
 
+use crate::pipeline::change::Change;
 use crate::provider_core::Core;
 use crate::provider_core::checks::{check_bind, check_held};
-use crate::provider_core::each_pipeline::{bind_or_none, record_held, unbind_held};
+use crate::provider_core::each_pipeline::{bind_or_none, change_all};
 use otel_aggregate::links::{add, make_room, number_in, number_near, take_out};
 use otel_aggregate::value_map::hashed_key::GivenAttributes;
 use otel_common::attributes::KeyValue;
@@ -93,13 +94,8 @@ impl Core {
         if let Err(fault) = check_held(&self.instruments, instrument, value) {
             return Err(fault);
         }
-        record_held(
-            &mut self.pipelines,
-            instrument,
-            handle.number,
-            handle.stream_place,
-            value,
-        );
+        let held = Change::Held(handle.number, handle.stream_place, value);
+        change_all(&mut self.pipelines, instrument, held);
         self.instruments[instrument].accept(value);
         Ok(())
     }
@@ -117,7 +113,7 @@ impl Core {
             Some(instrument) => instrument,
             None => return Err(Fault::UnknownHandle),
         };
-        unbind_held(&mut self.pipelines, instrument, handle);
+        change_all(&mut self.pipelines, instrument, Change::Unbind(handle));
         take_out(&mut self.handles, handle);
         Ok(())
     }

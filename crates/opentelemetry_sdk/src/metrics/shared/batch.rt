@@ -19,9 +19,10 @@ use crate::metrics::shared::holdings::Holdings;
 use crate::metrics::shared::pending::ListedRecord;
 use crate::metrics::shared::waiting::Waiting;
 use crate::pipeline::Pipeline;
+use crate::pipeline::change::Change;
 use crate::provider_core::Core;
 use crate::provider_core::checks::check_value;
-use crate::provider_core::each_pipeline::{bind_or_none, record_held, record_or_none, unbind_held};
+use crate::provider_core::each_pipeline::{bind_or_none, change_all, record_or_none};
 use crate::provider_core::instrument::Instrument;
 use std::alloc::Global;
 
@@ -46,7 +47,8 @@ fn record_first(
     match bind_or_none(pipelines, listed.instrument, handle, &given) {
         Ok(place) => {
             holdings.set_place(listed.place, place);
-            record_held(pipelines, listed.instrument, handle, place, listed.value);
+            let held = Change::Held(handle, place, listed.value);
+            change_all(pipelines, listed.instrument, held);
             Some(())
         }
         Err(_) => {
@@ -73,7 +75,8 @@ fn record_listed(
 {
     let handle = first + listed.place as u64;
     if let Some(place) = holdings.place(listed.place) {
-        record_held(pipelines, listed.instrument, handle, place, listed.value);
+        let held = Change::Held(handle, place, listed.value);
+        change_all(pipelines, listed.instrument, held);
         return Some(());
     }
     if holdings.has_many(listed.place, listed.attributes.as_slice().len()) {
@@ -142,7 +145,8 @@ fn release_each(pipelines: &mut [Pipeline], holdings: &mut Holdings, first: u64,
 {
     while let Some(series) = holdings.release() {
         let instrument = waiting.instrument(series);
-        unbind_held(pipelines, instrument, first + series as u64);
+        let ended = Change::Unbind(first + series as u64);
+        change_all(pipelines, instrument, ended);
     }
 }
 

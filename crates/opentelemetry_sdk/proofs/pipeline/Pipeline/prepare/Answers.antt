@@ -2,22 +2,18 @@ use Rattle.std.proofs.Common.{◌∙◌, ap, sym, subst, [], List, ℕ, slice_ge
 use Rattle.std.specs.Prelude.{All}
 use Rattle.otel_model.specs.Calls.{or_else}
 use Rattle.opentelemetry_sdk.specs.pipeline.Known.{IsKnownIfThere}
-use Rattle.opentelemetry_sdk.specs.pipeline.Pipelines.{Piped, all_without_pending, ArePrepared}
+use Rattle.opentelemetry_sdk.specs.pipeline.Pipelines.{Piped, all_without_pending, AreReady}
 use Rattle.opentelemetry_sdk.proofs.pipeline.Known.{known-at}
 use Rattle.opentelemetry_sdk.proofs.pipeline.Outcomes.{OnOk-weaker}
-use Rattle.opentelemetry_sdk.proofs.pipeline.PipelineLemmas.{lawful-inside, lawful-settled, reader_of, settled-part, sound-settled}
+use Rattle.opentelemetry_sdk.proofs.pipeline.PipelineLemmas.{lawful-inside, reader_of, settled-part, sound-settled}
 use Rattle.opentelemetry_sdk.proofs.pipeline.Pipeline.prepare.Goals as goal
 
 pub invariant_of-self : goal.invariant_of-self
 invariant_of-self c = sound-settled c.self.inside.answers c.self.inside.identities.keys c.self.inside.feeds.items c.self.inside.streams.items c.prepare_each.new.streams.items c.prepare_each.ensures.same c.self.invariant
 
--- the keys are the identities of the streams, also afterwards
-pub returns-clause-prepared : goal.returns-clause-prepared
-returns-clause-prepared c =
-    OnOk-weaker c.prepare_each.result (λ prepared. record {
-      lawful = lawful-settled _ c.prepare_each.new.streams.items _ c.prepare_each.ensures.same (rw (← c.self.view_is) at c.law_of_identities.ensures);
-      prepared = subst (ArePrepared c.args.attributes.now c.prepare_each.new.streams.items) (c.streams_fed.ensures ∙ ap (λ f. or_else (slice_get f c.args.instrument) []) c.deref.ensures.value) prepared;
-    }) c.prepare_each.ensures.prepared
+pub returns-clause-ready : goal.returns-clause-ready
+returns-clause-ready c =
+    OnOk-weaker c.prepare_each.result (subst (AreReady c.args.binds c.args.attributes.now c.prepare_each.new.streams.items) (c.streams_fed.ensures ∙ ap (λ f. or_else (slice_get f c.args.instrument) []) c.deref.ensures.value)) c.prepare_each.ensures.ready
 
 -- the model does not see which streams are ready
 pub returns-clause-same : goal.returns-clause-same
@@ -28,6 +24,6 @@ pub returns-clause-known : goal.returns-clause-known
 returns-clause-known c =
     let p : Piped = reader_of c.self.inside.answers c.self.inside.streams.items c.self.inside.feeds.items in
     let lawful = lawful-inside (rw (← c.self.view_is) at c.law_of_identities.ensures) in
-    rw (← c.self.view_is) (λ known. c.prepare_each.ensures.known
+    rw (← c.self.view_is) (λ records known. c.prepare_each.ensures.known records
     (subst (λ (ns : List ℕ). All (λ k. IsKnownIfThere c.args.attributes.now (slice_get (all_without_pending p.streams) k)) ns) (sym (c.streams_fed.ensures ∙ ap (λ f. or_else (slice_get f c.args.instrument) []) c.deref.ensures.value))
     (known-at c.args.attributes.now p lawful c.args.instrument known)))

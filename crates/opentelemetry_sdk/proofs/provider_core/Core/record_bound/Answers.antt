@@ -1,4 +1,4 @@
-use Rattle.std.proofs.Common.{◌≡◌, ◌∙◌, refl, ap, sym, subst, [], map, slice_get, set, Some, None, arith}
+use Rattle.std.proofs.Common.{ℕ, ◌≡◌, ◌∙◌, refl, ap, sym, subst, [], map, slice_get, set, Some, None, arith}
 use Rattle.std.specs.List.{AllByRecursion as EachOf}
 use Rattle.otel_model.specs.Calls as model
 use Rattle.otel_model.specs.Machine.{instrument_after_record, changed_at, part_after_call}
@@ -11,7 +11,7 @@ use Rattle.opentelemetry_sdk.proofs.pipeline.Writes.{set-changed}
 use Rattle.opentelemetry_sdk.specs.Cores.{state_in}
 use Rattle.opentelemetry_sdk.specs.Correspondence.{fault_of, number_of}
 use Rattle.opentelemetry_sdk.specs.States.{CoreContents, IsFault, IsNamed}
-use Rattle.opentelemetry_sdk.proofs.Held.{held-as, held-fed, synchronous-held, update-made}
+use Rattle.opentelemetry_sdk.proofs.Held.{held-as, held-fed, held-makes, synchronous-held, update-made}
 use Rattle.opentelemetry_sdk.proofs.Sound.{sound-step}
 use Rattle.opentelemetry_sdk.proofs.Stepped.{named-step, refused-step}
 use Rattle.opentelemetry_sdk.proofs.StepLemmas.{lent-parts, taken-feeds, taken-inside}
@@ -33,23 +33,6 @@ returns-in-Err-clause-step c =
     (ap (λ is. held_refusal (slice_get is c.in-Some.instrument) (number_of c.args.value).signed) c.deref.ensures.value ∙ ap (λ o. handle_refusal o old.shared.instruments (number_of c.args.value).signed) (sym (held-as c.args.handle.number old.shared.live (Some c.in-Some.instrument) c.in-Some.ensures)))
     c.in-Err.ensures.fault) refl)
 
--- the instrument feeds streams of its number type, which is the value's
-pub record_held-requires-clause-typed : goal.record_held-requires-clause-typed
-record_held-requires-clause-typed c = taken-feeds c.in-Some.instrument (number_of c.args.value) c.self.inside.instruments.items _ c.deref.ensures.value c.in_default.ensures.taken c.self.inside.pipelines.items _ c.deref_mut.ensures.value c.self.invariant.typed
-
--- the instrument feeds no observable stream, and no other stream has the handle
-pub record_held-requires-clause-synchronous : goal.record_held-requires-clause-synchronous
-record_held-requires-clause-synchronous c =
-    let old : State = state_in c.self.inside in
-    subst (λ ps. EachOf (FeedsSynchronous c.in-Some.instrument) (map part_of ps)) (sym c.deref_mut.ensures.value)
-    (synchronous-held old.shared c.args.handle.number c.in-Some.instrument old.readers c.self.invariant.lawful.handles (held-as c.args.handle.number old.shared.live (Some c.in-Some.instrument) c.in-Some.ensures) c.self.invariant.typed)
-
-pub record_held-requires-clause-held : goal.record_held-requires-clause-held
-record_held-requires-clause-held c =
-    let old : State = state_in c.self.inside in
-    subst (λ ps. EachOf (IsHeldByFed c.in-Some.instrument c.args.handle.number) (map part_of ps)) (sym c.deref_mut.ensures.value)
-    (held-fed old.shared c.args.handle.number c.in-Some.instrument old.readers c.self.invariant.lawful.handles (held-as c.args.handle.number old.shared.live (Some c.in-Some.instrument) c.in-Some.ensures) c.self.invariant.lawful.parts)
-
 pub index_mut-requires : goal.index_mut-requires
 index_mut-requires c = omega (arith, taken-inside c.in-Some.instrument (number_of c.args.value) c.self.inside.instruments.items _ c.deref.ensures.value c.in_default.ensures.taken)
 
@@ -63,18 +46,29 @@ fits c = ap (λ is. held_refusal (slice_get is c.in-Some.instrument) (number_of 
 accepted : (c : After-accept) → set c.self.inside.instruments.items c.in-Some.instrument c.accept.new.self ≡ changed_at c.in-Some.instrument (instrument_after_record (number_of c.args.value).amount) c.self.inside.instruments.items
 accepted c = set-changed (instrument_after_record (number_of c.args.value).amount) c.self.inside.instruments.items c.in-Some.instrument c.index_mut.result.now c.accept.new.self (taken-inside c.in-Some.instrument (number_of c.args.value) c.self.inside.instruments.items _ c.deref.ensures.value c.in_default.ensures.taken) c.index_mut.ensures.value c.accept.ensures
 
-sent : (c : After-accept) → map part_of c.record_held.new.pipelines ≡ map (part_after_call 0 (model.Call.RecordBound c.args.handle.number (number_of c.args.value))) (map part_of c.self.inside.pipelines.items)
-sent c = c.record_held.ensures ∙ ap (λ ps. map (part_after_call 0 (model.Call.RecordBound c.args.handle.number (number_of c.args.value))) (map part_of ps)) c.deref_mut.ensures.value
+-- the instrument feeds streams of its number type, which is the value's, and no observable stream, and no other stream has
+-- the handle
+sent : (c : After-accept) → map part_of c.change_all.new.pipelines ≡ map (part_after_call 0 (model.Call.RecordBound c.args.handle.number (number_of c.args.value))) (map part_of c.self.inside.pipelines.items)
+sent c =
+    let old : State = state_in c.self.inside in
+    let n : ℕ = c.in-Some.instrument in
+    let h : ℕ = c.args.handle.number in
+    let back = c.deref_mut.ensures.value in
+    c.change_all.ensures 0 (model.Call.RecordBound h (number_of c.args.value)) (held-makes n h c.args.handle.stream_place c.args.value c.deref_mut.result.now
+    (taken-feeds n (number_of c.args.value) c.self.inside.instruments.items _ c.deref.ensures.value c.in_default.ensures.taken c.self.inside.pipelines.items _ back c.self.invariant.typed)
+    (subst (λ ps. EachOf (FeedsSynchronous n) (map part_of ps)) (sym back) (synchronous-held old.shared h n old.readers c.self.invariant.lawful.handles (held c) c.self.invariant.typed))
+    (subst (λ ps. EachOf (IsHeldByFed n h) (map part_of ps)) (sym back) (held-fed old.shared h n old.readers c.self.invariant.lawful.handles (held c) c.self.invariant.lawful.parts)))
+    ∙ ap (λ ps. map (part_after_call 0 (model.Call.RecordBound h (number_of c.args.value))) (map part_of ps)) back
 
 pub invariant_of-self : goal.invariant_of-self
 invariant_of-self c =
     let w = (goal.at.invariant_of-self c).After-accept in
     let old : State = state_in c.self.inside in
     sound-step [] old _ (model.Call.RecordBound c.args.handle.number (number_of c.args.value)) model.Reply.Done c.self.invariant
-    (update-made old c.args.handle.number c.in-Some.instrument (number_of c.args.value) _ _ (held w) (fits w) (accepted w) (lent-parts c.self.inside.pipelines.len c.record_held.new.pipelines _ _ (omega arith) (sent w)) [])
+    (update-made old c.args.handle.number c.in-Some.instrument (number_of c.args.value) _ _ (held w) (fits w) (accepted w) (lent-parts c.self.inside.pipelines.len c.change_all.new.pipelines _ _ (omega arith) (sent w)) [])
 
 pub returns-clause-step : goal.returns-clause-step
 returns-clause-step c =
     let w = (goal.at.returns-clause-step c).After-accept in
     let old : State = state_in c.self.inside in
-    rw (← c.self.view_is) (λ own. update-made old c.args.handle.number c.in-Some.instrument (number_of c.args.value) _ _ (held w) (fits w) (accepted w) (lent-parts c.self.inside.pipelines.len c.record_held.new.pipelines _ _ (omega arith) (sent w)))
+    rw (← c.self.view_is) (λ own. update-made old c.args.handle.number c.in-Some.instrument (number_of c.args.value) _ _ (held w) (fits w) (accepted w) (lent-parts c.self.inside.pipelines.len c.change_all.new.pipelines _ _ (omega arith) (sent w)))

@@ -1,16 +1,16 @@
-use Rattle.std.proofs.Common.{◌∙◌, List, ap, sym, subst, map}
-use Rattle.otel_common.specs.declared.attributes.KeyValue.{KeyValue}
+use Rattle.std.proofs.Common.{◌∙◌, refl, sym, subst, map}
+use Rattle.otel_aggregate.specs.Any.{is_signed_value}
 use Rattle.otel_model.specs.Calls as model
 use Rattle.otel_model.specs.Machine.{part_after_call}
-use Rattle.opentelemetry_sdk.specs.pipeline.Pipelines.{part_of}
+use Rattle.opentelemetry_sdk.specs.pipeline.Pipelines.{FeedsType}
 use Rattle.opentelemetry_sdk.specs.Correspondence.{number_of}
 use Rattle.opentelemetry_sdk.specs.States.{FeedType}
-use Rattle.opentelemetry_sdk.proofs.StepLemmas.{all_recorded}
+use Rattle.opentelemetry_sdk.proofs.Held.{each-at}
 use Rattle.opentelemetry_sdk.proofs.provider_core.each_pipeline.record_given.Goals as goal
 
 pub returns-clause-ok : goal.returns-clause-ok
 returns-clause-ok c =
-    c.commit_all.ensures
-    ∙ (all_recorded 0 c.args.instrument c.args.value c.given_at-given.result c.prepare_all.new.pipelines c.in_ok-prepare_all.ensures.prepared (subst (FeedType c.args.instrument (number_of c.args.value)) (sym c.prepare_all.ensures.same) c.requires)
-    ∙ (ap (λ (l : List KeyValue). map (part_after_call 0 (model.Call.Record c.args.instrument (number_of c.args.value) l)) (map part_of c.prepare_all.new.pipelines)) c.given_at-given.ensures
-    ∙ ap (map (part_after_call 0 (model.Call.Record c.args.instrument (number_of c.args.value) c.args.attributes.now))) c.prepare_all.ensures.same))
+    let typed : FeedType c.args.instrument (number_of c.args.value) _ = subst (FeedType c.args.instrument (number_of c.args.value)) (sym c.prepare_all.ensures.same) c.requires in
+    c.change_all.ensures 0 (model.Call.Record c.args.instrument (number_of c.args.value) c.given_at-given.result)
+    (λ i d h. (c.given_at-given.result, refl, c.in_ok-prepare_all.ensures.ready i d h, each-at (FeedsType c.args.instrument (is_signed_value c.args.value)) c.prepare_all.new.pipelines i d h typed))
+    ∙ λ i. map (part_after_call 0 (model.Call.Record c.args.instrument (number_of c.args.value) (c.given_at-given.ensures i))) (c.prepare_all.ensures.same i)

@@ -1,7 +1,0 @@
-use Rattle.opentelemetry_sdk.specs.pipeline.Handles.{IsReadyIfThere}
-use Rattle.opentelemetry_sdk.specs.pipeline.Streams.{without_pending}
-use Rattle.opentelemetry_sdk.proofs.pipeline.Writes.{IsReadyUpto}
-use Rattle.opentelemetry_sdk.proofs.pipeline.each_stream.prepare_bind_each.Given as goal
-
-abbrev pub invariant-loop-k : goal.invariant-loop-k
-invariant-loop-k l = IsReadyUpto without_pending (IsReadyIfThere l.attributes) l.feeds l.initial.streams.items l.streams.items l.k-index

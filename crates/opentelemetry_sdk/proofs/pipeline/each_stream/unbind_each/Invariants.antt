@@ -1,6 +1,0 @@
-use Rattle.opentelemetry_sdk.specs.pipeline.Streams.{contents_after_unbind}
-use Rattle.opentelemetry_sdk.proofs.pipeline.Writes.{IsChangedUpto}
-use Rattle.opentelemetry_sdk.proofs.pipeline.each_stream.unbind_each.Given as goal
-
-abbrev pub invariant-loop-k : goal.invariant-loop-k
-invariant-loop-k l = IsChangedUpto (contents_after_unbind l.handle) l.feeds l.initial.streams.items l.streams.items l.k-index
