@@ -74,23 +74,6 @@ lawful-keys same law keys p unique sound = record {
   once = sound.3;
 }
 
--- streams in which only what is prepared changed are as lawful
-pub lawful-settled : (p : Piped) (new : List StreamContents) (seed : ℕ) → all_without_pending new ≡ all_without_pending p.streams → IsLawful p → IsLawful (record { answers = p.answers; streams = new; feeds = p.feeds; hash_seed = seed })
-lawful-settled p new seed e lawful =
-    let same : map answer_of new ≡ map answer_of p.streams = answers-settled new p.streams e in
-    record {
-      apart = subst (IsDistinct identity_eq) (sym (identities-same new p.streams (fates-same new p.streams same))) lawful.apart;
-      numbers = numbers-kept p.streams new p.feeds (length-seen answer_of p.streams new (sym same)) lawful.numbers;
-      once = lawful.once;
-    }
-
--- a reader with these streams
-abbrev pub reader_of : ReaderAnswers → List StreamContents → List (List ℕ) → Piped
-reader_of answers streams feeds = record { answers = answers; streams = streams; feeds = feeds; hash_seed = 0 }
-
-pub lawful-inside : {answers : ReaderAnswers} {streams : List StreamContents} {feeds : List (List ℕ)} {seed : ℕ} → IsLawful (record { answers = answers; streams = streams; feeds = feeds; hash_seed = seed }) → IsLawful (reader_of answers streams feeds)
-lawful-inside lawful = lawful-settled _ _ 0 refl lawful
-
 -- ======== the model's part ========
 pub filter-map : {X Y : Type 0} (p : Y → Bool) (f : X → Y) (xs : List X) → filter p (map f xs) ≡ map f (filter (λ x. p (f x)) xs)
 filter-map p f [] = refl

@@ -2,12 +2,12 @@ use Rattle.std.proofs.Common.{◌∙◌, ap, sym, subst, [], List, ℕ, get_or, 
 use Rattle.std.specs.Prelude.{All}
 use Rattle.otel_model.specs.Calls.{or_else}
 use Rattle.opentelemetry_sdk.specs.pipeline.Known.{IsKnownIfThere}
-use Rattle.opentelemetry_sdk.specs.pipeline.Pipelines.{AreNumbers, Piped, all_without_pending}
+use Rattle.opentelemetry_sdk.specs.pipeline.Pipelines.{IsLawful, AreNumbers, Piped, all_without_pending}
 use Rattle.opentelemetry_sdk.specs.pipeline.Streams.{StreamContents, contents_after_record, without_pending}
 use Rattle.opentelemetry_sdk.proofs.pipeline.Answered.{answer_of, records-either}
 use Rattle.opentelemetry_sdk.proofs.pipeline.Known.{known-alone, known-at}
 use Rattle.opentelemetry_sdk.proofs.pipeline.Outcomes.{OnErr-weaker, OnOk-weaker}
-use Rattle.opentelemetry_sdk.proofs.pipeline.PipelineLemmas.{changed-part, lawful-inside, reader_of, settled-part, sound-same}
+use Rattle.opentelemetry_sdk.proofs.pipeline.PipelineLemmas.{changed-part, settled-part, sound-same}
 use Rattle.opentelemetry_sdk.proofs.pipeline.Records.{fed-numbers, taken-sent}
 use Rattle.opentelemetry_sdk.proofs.pipeline.Writes.{changed-alone, seen_same}
 use Rattle.opentelemetry_sdk.proofs.pipeline.Pipeline.record.Goals as goal
@@ -23,8 +23,8 @@ invariant_of-self c =
 -- the record is sent to the one stream that the instrument feeds
 pub returns-then-feeds-eq1-clause-ok : goal.returns-then-feeds-eq1-clause-ok
 returns-then-feeds-eq1-clause-ok c =
-    let p : Piped = reader_of c.self.inside.answers c.self.inside.streams.items c.self.inside.feeds.items in
-    let lawful = lawful-inside (rw (← c.self.view_is) at c.law_of_identities.ensures) in
+    let p : Piped = record { answers = c.self.inside.answers; streams = c.self.inside.streams.items; feeds = c.self.inside.feeds.items; hash_seed = c.self.inside.hasher.seed } in
+    let lawful : IsLawful p = rw (← c.self.view_is) at c.law_of_identities.ensures in
     let ns : List ℕ = c.streams_fed-feeds.result.now in
     let x : StreamContents = c.index_mut.result.now in
     let f : StreamContents → StreamContents = contents_after_record c.args.value c.args.attributes.now in
@@ -43,8 +43,8 @@ returns-then-feeds-eq1-clause-err c =
 -- the number that the instrument feeds is that of a stream whose identity it feeds
 pub returns-then-feeds-eq1-clause-known : goal.returns-then-feeds-eq1-clause-known
 returns-then-feeds-eq1-clause-known c =
-    let p : Piped = reader_of c.self.inside.answers c.self.inside.streams.items c.self.inside.feeds.items in
-    let lawful = lawful-inside (rw (← c.self.view_is) at c.law_of_identities.ensures) in
+    let p : Piped = record { answers = c.self.inside.answers; streams = c.self.inside.streams.items; feeds = c.self.inside.feeds.items; hash_seed = c.self.inside.hasher.seed } in
+    let lawful : IsLawful p = rw (← c.self.view_is) at c.law_of_identities.ensures in
     let ns : List ℕ = c.streams_fed-feeds.result.now in
     let fed = c.streams_fed-feeds.ensures ∙ ap (λ g. or_else (slice_get g c.args.instrument) []) c.deref.ensures.value in
     let all : AreNumbers p.streams ns = subst (AreNumbers p.streams) (sym fed) (fed-numbers p.streams p.feeds c.args.instrument lawful.numbers) in
