@@ -1,13 +1,12 @@
 -- Calls that the provider carries out are the model's.
 use Rattle.std.proofs.Common.{◌≡◌, ℕ, zero, suc, ◌+◌, ◌<◌, Bool, true, false, cond, not, ◌||◌, List, [], ◌∷◌, ◌++◌, map, length, take, Option, Some, None, option_map, slice_get, refl, sym, ◌∙◌, ap, subst, arith, true≢false}
-use Rattle.std.specs.Prelude.{All, Result, Ok, Err, OnOk, OnErr, IfOk, IsOkUnless, is_some, position}
+use Rattle.std.specs.Prelude.{Result, Ok, Err, OnOk, OnErr, IfOk, IsOkUnless, is_some, position}
 use Rattle.std.specs.List.{list_any, position_or_len}
 use Rattle.otel_common.specs.Scopes.{scope_eq, scope_eq-Decides}
 use Rattle.otel_common.specs.declared.attributes.KeyValue.{KeyValue}
 use Rattle.otel_common.specs.declared.faults.Fault.{Fault}
 use Rattle.otel_common.specs.declared.faults.Fault.TheVariants as fault
 use Rattle.otel_common.specs.declared.scopes.InstrumentationScope.{InstrumentationScope}
-use Rattle.otel_data.specs.declared.numbers.NumberValue.{NumberValue}
 use Rattle.otel_model.specs.Calls as model
 use Rattle.otel_model.specs.Demands.{StreamSpec, Views, is_good}
 use Rattle.otel_model.specs.Machine as machine
@@ -21,7 +20,7 @@ use Rattle.opentelemetry_sdk.specs.pipeline.Views.{views_answering}
 use Rattle.opentelemetry_sdk.proofs.Asked.{built-answered}
 use Rattle.opentelemetry_sdk.proofs.Stepped.{memory-step}
 use Rattle.opentelemetry_sdk.proofs.Typed.{typed-feeds}
-use Rattle.opentelemetry_sdk.specs.Correspondence.{number_of, reply_from}
+use Rattle.opentelemetry_sdk.specs.Correspondence.{reply_from}
 use Rattle.opentelemetry_sdk.specs.States.{IsFault, IsScopeOf, IsNoMeter, IsGoodIn, AreAsked, FeedType, IsTakenBy, AreTyped}
 
 -- ======== meters ========
