@@ -392,6 +392,79 @@ const BATCHES: &[Case] = &[
                 collected 1\n\
                 point m c sum cumulative monotonic 100 410 a=i:1,c=s:x,y=b:true,z=i:9 1078\n",
     },
+    // A handle of the caller's records between eight lists and eight more: of its set its value is the last one, then that
+    // of the lists after it.
+    Case {
+        name: "handle_between_lists",
+        script: "reader cumulative\n\
+                 go\n\
+                 meter m\n\
+                 build 0 i64_gauge g 100\n\
+                 bind 0 a=i:1,c=s:x,y=b:true,z=i:9\n\
+                 record 0 i:1 a=i:1,c=s:x,y=b:true,z=i:9\n\
+                 record 0 i:2 a=i:2,c=s:x,y=b:true,z=i:9\n\
+                 record 0 i:3 a=i:1,c=s:x,y=b:true,z=i:9\n\
+                 record 0 i:4 a=i:2,c=s:x,y=b:true,z=i:9\n\
+                 record 0 i:5 a=i:1,c=s:x,y=b:true,z=i:9\n\
+                 record 0 i:6 a=i:2,c=s:x,y=b:true,z=i:9\n\
+                 record 0 i:7 a=i:1,c=s:x,y=b:true,z=i:9\n\
+                 record 0 i:8 a=i:2,c=s:x,y=b:true,z=i:9\n\
+                 recordbound 0 i:-100\n\
+                 record 0 i:9 a=i:2,c=s:x,y=b:true,z=i:9\n\
+                 record 0 i:10 a=i:2,c=s:x,y=b:true,z=i:9\n\
+                 record 0 i:11 a=i:2,c=s:x,y=b:true,z=i:9\n\
+                 record 0 i:12 a=i:2,c=s:x,y=b:true,z=i:9\n\
+                 record 0 i:13 a=i:2,c=s:x,y=b:true,z=i:9\n\
+                 record 0 i:14 a=i:2,c=s:x,y=b:true,z=i:9\n\
+                 record 0 i:15 a=i:2,c=s:x,y=b:true,z=i:9\n\
+                 record 0 i:-16 a=i:2,c=s:x,y=b:true,z=i:9\n\
+                 collect 0 200\n\
+                 recordbound 0 i:50\n\
+                 record 0 i:51 a=i:1,c=s:x,y=b:true,z=i:9\n\
+                 record 0 i:52 a=i:1,c=s:x,y=b:true,z=i:9\n\
+                 record 0 i:53 a=i:1,c=s:x,y=b:true,z=i:9\n\
+                 record 0 i:54 a=i:1,c=s:x,y=b:true,z=i:9\n\
+                 record 0 i:55 a=i:1,c=s:x,y=b:true,z=i:9\n\
+                 record 0 i:56 a=i:1,c=s:x,y=b:true,z=i:9\n\
+                 record 0 i:57 a=i:1,c=s:x,y=b:true,z=i:9\n\
+                 record 0 i:60 a=i:1,c=s:x,y=b:true,z=i:9\n\
+                 collect 0 300\n",
+        lines: "meter 0\n\
+                instrument 0\n\
+                handle 0\n\
+                ok\n\
+                ok\n\
+                ok\n\
+                ok\n\
+                ok\n\
+                ok\n\
+                ok\n\
+                ok\n\
+                ok\n\
+                ok\n\
+                ok\n\
+                ok\n\
+                ok\n\
+                ok\n\
+                ok\n\
+                ok\n\
+                ok\n\
+                collected 2\n\
+                point m g gauge 100 200 a=i:1,c=s:x,y=b:true,z=i:9 -100\n\
+                point m g gauge 100 200 a=i:2,c=s:x,y=b:true,z=i:9 -16\n\
+                ok\n\
+                ok\n\
+                ok\n\
+                ok\n\
+                ok\n\
+                ok\n\
+                ok\n\
+                ok\n\
+                ok\n\
+                collected 2\n\
+                point m g gauge 100 300 a=i:1,c=s:x,y=b:true,z=i:9 60\n\
+                point m g gauge 100 300 a=i:2,c=s:x,y=b:true,z=i:9 -16\n",
+    },
     // A batch takes no number of a handle: the first that is bound after one is 0, and the next after another is 1.
     Case {
         name: "handles_after_batches",
