@@ -20,7 +20,7 @@ use crate::settings::AnySettings;
 use crate::value_map::ValueMap;
 use crate::value_map::hashed_key::GivenAttributes;
 use crate::value_map::hashing::SetHashBuilder;
-use crate::values::{bits_of, is_signed, law_of_range};
+use crate::values::bits_of;
 use otel_common::faults::Fault;
 use otel_common::keys::Key;
 use otel_common::lists::Items;
@@ -36,11 +36,7 @@ pub mod shown;
 fn is_delta(temporality: Temporality) -> bool
     ensures { result ≡ resets temporality }
 {
-    match temporality {
-        Temporality::Delta => true,
-        Temporality::Cumulative => false,
-        Temporality::LowMemory => false,
-    }
+    matches!(temporality, Temporality::Delta)
 }
 
 /// The allow-list of these keys, if there are any.
@@ -238,8 +234,10 @@ impl AggregateStream {
         ensures told { result ≡ beq (is_signed_value value) self.now.is_signed }
         ensures within { result ≡ true → IsWithin self.now.is_signed (amount_of value).wide }
     {
-        law_of_range(value);
-        is_signed(value) == self.is_signed
+        match value {
+            NumberValue::U64(_value) => !self.is_signed,
+            NumberValue::I64(_value) => self.is_signed,
+        }
     }
 
     /// Takes in the prepared record, if there is one and the value has the stream's number type, and returns whether

@@ -95,9 +95,6 @@ impl AnySettings {
     pub(crate) fn drains(&self) -> bool
         ensures { result ≡ drains_of self.now }
     {
-        match self {
-            AnySettings::PrecomputedSum { is_monotonic: _ } => true,
-            _ => false,
-        }
+        matches!(self, AnySettings::PrecomputedSum { .. })
     }
 }
