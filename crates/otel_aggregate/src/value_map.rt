@@ -23,9 +23,7 @@ use crate::value_map::draft::Draft;
 use crate::value_map::hashed_key::{GivenAttributes, HashedSet, OwnedSet};
 use crate::value_map::hashing::SetHashBuilder;
 use crate::value_map::maker::{Copies, PointMaker};
-use crate::value_map::pending::{
-    Pending, Prepared, form_led_to, led_to, make_ready, plan, take_slot,
-};
+use crate::value_map::pending::{Pending, form_led_to, led_to, make_ready, plan, take_slot};
 use crate::value_map::slots::Slot;
 use crate::value_map::table::Table;
 use otel_common::attributes::KeyValue;
@@ -33,7 +31,7 @@ use otel_common::faults::Fault;
 use otel_common::lists::SharedItems;
 use std::alloc::{AllocError, Global};
 use std::marker::Model;
-use std::mem::swap;
+use std::mem::{replace, swap};
 
 pub mod draft;
 pub mod hashed_key;
@@ -67,7 +65,7 @@ pub struct ValueMap<A: Aggregator> {
     unused: Option<A>,
     /// The set of the overflow entry, made in advance as that entry's key, and for looking it up.
     spare_key: Option<OwnedSet>,
-    pending: Prepared,
+    pending: Pending,
 }
 
 impl<A: Aggregator> Model for ValueMap<A> {
@@ -134,7 +132,7 @@ impl<A: Aggregator> ValueMap<A> {
             table,
             unused: None,
             spare_key: None,
-            pending: Prepared::nothing(),
+            pending: Pending::Nothing,
         })
     }
 
@@ -158,7 +156,8 @@ impl<A: Aggregator> ValueMap<A> {
         ensures placed { IsTrue (is_placed (canon list.now.key) self.old.state.table.entries) → IsOk result }
     {
         if let Some(number) = led_to(&self.table, list) {
-            self.pending.put_at(number);
+            self.pending.give_up();
+            self.pending = Pending::At(number);
             return Ok(());
         }
         match self.prepare_unknown(list, allow, attributes, None) {
@@ -201,8 +200,8 @@ impl<A: Aggregator> ValueMap<A> {
             allow,
             attributes,
         )?;
-        if !plan.is_new() {
-            self.pending.put(plan);
+        if let Pending::At(_) = plan {
+            self.pending = plan;
             return Ok(());
         }
         make_ready(
@@ -212,7 +211,7 @@ impl<A: Aggregator> ValueMap<A> {
             self.alloc,
             &self.config,
         )?;
-        self.pending.put(plan);
+        self.pending = plan;
         Ok(())
     }
 
@@ -226,10 +225,11 @@ impl<A: Aggregator> ValueMap<A> {
         ensures given { self.new.given ≡ self.old.given ++ self.old.spelling }
         ensures spent { self.new.pending ≡ None }
     {
-        match self.pending.take_number() {
-            Some(number) => number,
-            None => self.place_new(),
+        if let Pending::At(number) = self.pending {
+            self.pending = Pending::Nothing;
+            return number;
         }
+        self.place_new()
     }
 
     /// Does what `place` does, out of line, as few records are for a set that has no entry.
@@ -242,7 +242,7 @@ impl<A: Aggregator> ValueMap<A> {
         ensures given { self.new.given ≡ self.old.given ++ self.old.spelling }
         ensures spent { self.new.pending ≡ None }
     {
-        let (set, list) = match self.pending.take() {
+        let (set, list) = match replace(&mut self.pending, Pending::Nothing) {
             Pending::Nothing => return self.table.none(),
             Pending::At(number) => return number,
             Pending::New(set, list) => (set, list),
@@ -338,7 +338,7 @@ impl<A: Aggregator> ValueMap<A> {
             let Some(number) = form_led_to(&self.table, Some(allow), attributes) else {
                 return Err(Fault::OutOfMemory);
             };
-            self.pending.put_at(number);
+            self.pending = Pending::At(number);
             return Ok(());
         };
         let list = HashedSet::referenced(self.table.hasher(), references.as_slice());
@@ -360,7 +360,7 @@ impl<A: Aggregator> ValueMap<A> {
     pub(crate) fn is_prepared(&self) -> bool
         ensures { result ≡ is_some self.now.pending }
     {
-        self.pending.is_some()
+        !matches!(self.pending, Pending::Nothing)
     }
 
     /// Takes in the prepared record; `is_prepared` tells whether there is one. This is the second phase; it looks nothing
@@ -496,7 +496,7 @@ impl<A: Aggregator> ValueMap<A> {
     fn handles_there(&self) -> u64
         ensures { (s : AttributeSet) → self.now.pending ≡ Some s → result ≡ handles_at (bound_to s self.now.state) self.now.state.table }
     {
-        if let Some(number) = self.pending.number() {
+        if let Pending::At(number) = self.pending {
             return self.table.handles(number);
         }
         // Tells the prover that the first entry is the empty set's.

@@ -13,7 +13,7 @@ use Rattle.otel_model_stream.specs.Entries.{Entry, Table, new_entry, is_of, has,
 use Rattle.otel_model_stream.specs.Maps.{MapState, with_place, measured_map, measured_list, bound_to}
 use Rattle.otel_aggregate.specs.value_map.Keyed.{Slotted, IsNew}
 use Rattle.otel_aggregate.specs.value_map.Numbers.{Numbers, number_of, KeepNumbers, is_placed, set_named, handles_in, handles_at}
-use Rattle.otel_aggregate.specs.value_map.Contents.{MapContents, IsOverflowAt, IsPlan, IsPlanAt, IsSound, IsReady, pending_in, is_new, is_pending, target_of}
+use Rattle.otel_aggregate.specs.value_map.Contents.{MapContents, IsOverflowAt, IsPlan, IsPlanAt, IsSound, IsReady, pending_in, target_of}
 use Rattle.otel_aggregate.specs.declared.value_map.pending.Pending.{Pending}
 use Rattle.otel_aggregate.specs.declared.value_map.pending.Pending.TheVariants.{Nothing, At, New}
 use Rattle.otel_aggregate.proofs.value_map.CanonicalSets.{some-canon}
@@ -120,9 +120,6 @@ counted-push (r ∷ rs) e =
 pub sound-nothing : (t : Slotted) (few room : Bool) (p : Pending) → p ≡ Nothing → IsSound t few room p
 sound-nothing t few room p is = subst (IsSound t few room) (sym is) tt
 
-pub sound-at : (t : Slotted) (few room : Bool) (p : Pending) (n : ℕ) → p ≡ At n → IsSound t few room (At n) → IsSound t few room p
-sound-at t few room p n is found = subst (IsSound t few room) (sym is) found
-
 -- and the one that is new
 pub new-prepared : (t : Slotted) (few room : Bool) (p : Pending) (set : AttributeSet) (list : Option (List KeyValue)) → IsSound t few room p → New set list ≡ p → IsReady t few room set list
 new-prepared t few room p set list sound is = subst (IsSound t few room) (sym is) sound
@@ -131,10 +128,10 @@ pub new-set : (ns : Numbers) (p : Pending) (set s : AttributeSet) (list : Option
 new-set ns p set s list is e = let both : Some set ≡ Some s = ap (pending_in ns) is ∙ e in cc
 
 -- which is the set that is prepared, if that has no entry
-pub new-there : (t : Slotted) (few room : Bool) (p : Pending) (s : AttributeSet) → IsSound t few room p → is_new p ≡ is_pending p → pending_in t.numbers p ≡ Some s → (set_eq s none_set ≡ false) × (has s t.table.entries ≡ false)
-new-there t few room Nothing s sound is e = absurd (cc)
-new-there t few room (At n) s sound is e = absurd (cc)
-new-there t few room (New set list) s sound is e =
+pub new-there : (t : Slotted) (few room : Bool) (p : Pending) (s : AttributeSet) → IsSound t few room p → ((n : ℕ) → p ≡ At n → ⊥) → pending_in t.numbers p ≡ Some s → (set_eq s none_set ≡ false) × (has s t.table.entries ≡ false)
+new-there t few room Nothing s sound other e = absurd (cc)
+new-there t few room (At n) s sound other e = absurd (other n refl)
+new-there t few room (New set list) s sound other e =
     let same : set ≡ s = cc in
     (subst (λ x. set_eq x none_set ≡ false) same sound.new.some, subst (λ x. has x t.table.entries ≡ false) same sound.absent)
 

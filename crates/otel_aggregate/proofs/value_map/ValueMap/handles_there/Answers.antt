@@ -13,7 +13,7 @@ returns-then-self g c = λ s e.
     let inside = c.self.inside in
     let t = inside.table in
     let m : MapState = record { limit = inside.limit; empty = g.A.Aggregator.empty inside.config; table = t.table } in
-    let fresh = new-there t _ _ inside.pending s c.self.invariant.3 c.in_default.ensures.other (ap (λ (h : MapContents). h.pending) c.self.view_is ∙ e) in
+    let fresh = new-there t _ _ inside.pending s c.self.invariant.3 c.in_default.not-At (ap (λ (h : MapContents). h.pending) c.self.view_is ∙ e) in
     let few : nat_lt (number_counted t.table.entries) inside.limit ≡ true = rw (← c.self.invariant.0) (lt-ltb _ _ c.if-self.true) in
     let used : bound_to s m ≡ s = bound-by m s _ s (place-admitted inside.limit m.empty s t.table.entries fresh.0 fresh.1 few) in
     let none : handles_at s t.table ≡ 0 = no_handles s t.table (ap (λ (x : Entry). x.set) c.law_of_empty_set.ensures.1) fresh.0 fresh.1 in
@@ -24,9 +24,9 @@ returns-in-None g c = λ s e.
     let inside = c.self.inside in
     let t = inside.table in
     let m : MapState = record { limit = inside.limit; empty = g.A.Aggregator.empty inside.config; table = t.table } in
-    let fresh = new-there t _ _ inside.pending s c.self.invariant.3 c.in_default.ensures.other (ap (λ (h : MapContents). h.pending) c.self.view_is ∙ e) in
+    let fresh = new-there t _ _ inside.pending s c.self.invariant.3 c.in_default.not-At (ap (λ (h : MapContents). h.pending) c.self.view_is ∙ e) in
     let full : nat_lt (number_counted t.table.entries) inside.limit ≡ false = rw (← c.self.invariant.0) (le-ltb _ _ c.if-self.false) in
-    let over : c.lent-set.result.key ≡ over_set = c.lent-set.ensures ∙ made_key inside.spare_key c.in-Some-spare_key.overflow c.self.invariant.2 c.in-Some-spare_key.is in
+    let over : c.lent-set.result.key ≡ over_set = c.lent-set.ensures ∙ made_key inside.spare_key c.in-Some.overflow c.self.invariant.2 c.in-Some.is in
     let gone : has over_set t.table.entries ≡ false = ap (λ (x : AttributeSet). has x t.table.entries) (sym over) ∙ sym c.in-None.ensures.placed in
     let used : bound_to s m ≡ over_set = bound-by m s _ over_set (place-over_made inside.limit m.empty s t.table.entries fresh.0 fresh.1 full gone) in
     let none : handles_at over_set t.table ≡ 0 = no_handles over_set t.table (ap (λ (x : Entry). x.set) c.law_of_empty_set.ensures.1) refl gone in

@@ -30,8 +30,8 @@ returns-then-self-clause-state g c = λ s e.
     let empty : Fold = g.A.Aggregator.empty c.self.inside.config in
     let entries : List Entry = t.table.entries in
     let before : MapState = record { limit = c.self.inside.limit; empty = empty; table = t.table } in
-    let ready : IsReady t _ _ set c.in-New.list = new-prepared t _ _ c.self.inside.pending set c.in-New.list c.self.invariant.3 c.in-New.ensures.taken in
-    let same : set ≡ s = new-set t.numbers c.self.inside.pending set s c.in-New.list c.in-New.ensures.taken (ap (λ (h : MapContents). h.pending) c.self.view_is ∙ e) in
+    let ready : IsReady t _ _ set c.in-New.list = new-prepared t _ _ c.self.inside.pending set c.in-New.list c.self.invariant.3 c.in-New.ensures.value in
+    let same : set ≡ s = new-set t.numbers c.self.inside.pending set s c.in-New.list c.in-New.ensures.value (ap (λ (h : MapContents). h.pending) c.self.view_is ∙ e) in
     let few : nat_lt (number_counted entries) c.self.inside.limit ≡ true = rw (← c.self.invariant.0) (lt-ltb _ _ c.if-self.true) in
     let place : Placing c.self.inside.limit empty set entries _ set = place-admitted c.self.inside.limit empty set entries ready.new.some ready.absent few in
     let after : c.add.new.self.table.entries ≡ entries ++ new_entry empty set true ∷ [] =
@@ -46,8 +46,8 @@ returns-then-self-clause-number g c = λ s e.
     let set : AttributeSet = c.in-New.set in
     let empty : Fold = g.A.Aggregator.empty c.self.inside.config in
     let entries : List Entry = t.table.entries in
-    let ready : IsReady t _ _ set c.in-New.list = new-prepared t _ _ c.self.inside.pending set c.in-New.list c.self.invariant.3 c.in-New.ensures.taken in
-    let same : set ≡ s = new-set t.numbers c.self.inside.pending set s c.in-New.list c.in-New.ensures.taken (ap (λ (h : MapContents). h.pending) c.self.view_is ∙ e) in
+    let ready : IsReady t _ _ set c.in-New.list = new-prepared t _ _ c.self.inside.pending set c.in-New.list c.self.invariant.3 c.in-New.ensures.value in
+    let same : set ≡ s = new-set t.numbers c.self.inside.pending set s c.in-New.list c.in-New.ensures.value (ap (λ (h : MapContents). h.pending) c.self.view_is ∙ e) in
     let few : nat_lt (number_counted entries) c.self.inside.limit ≡ true = rw (← c.self.invariant.0) (lt-ltb _ _ c.if-self.true) in
     let place : Placing c.self.inside.limit empty set entries _ set = place-admitted c.self.inside.limit empty set entries ready.new.some ready.absent few in
     let after : c.add.new.self.table.entries ≡ entries ++ new_entry empty set true ∷ [] =
@@ -60,14 +60,14 @@ returns-then-self-clause-number g c = λ s e.
 pub returns-then-self-clause-numbers : goal.returns-then-self-clause-numbers
 returns-then-self-clause-numbers g c =
     let t = c.self.inside.table in
-    let ready : IsReady t _ _ c.in-New.set c.in-New.list = new-prepared t _ _ c.self.inside.pending c.in-New.set c.in-New.list c.self.invariant.3 c.in-New.ensures.taken in
+    let ready : IsReady t _ _ c.in-New.set c.in-New.list = new-prepared t _ _ c.self.inside.pending c.in-New.set c.in-New.list c.self.invariant.3 c.in-New.ensures.value in
     rw (← c.self.view_is) (numbers-added t.numbers c.add.new.self.numbers c.in-New.set c.add.result c.add.ensures.none c.add.ensures.sets ready.new).0
 
 pub add-requires-2-clause-new : goal.add-requires-2-clause-new
 add-requires-2-clause-new g c =
     let sets = c.self.inside.table.numbers.sets in
     let over : c.lent.result.key ≡ over_set = c.lent.ensures ∙ made_key c.self.inside.spare_key c.unwrap-overflow.result.now c.self.invariant.2 (sym c.as_ref.ensures.value ∙ ap option_copied c.unwrap-overflow.ensures) in
-    let key : c.unwrap-key.result ≡ over_set = made_key c.self.inside.spare_key c.unwrap-key.result c.self.invariant.2 (sym c.take-2.ensures.value ∙ c.unwrap-key.ensures) in
+    let key : c.unwrap-key.result ≡ over_set = made_key c.self.inside.spare_key c.unwrap-key.result c.self.invariant.2 (sym c.take.ensures.value ∙ c.unwrap-key.ensures) in
     subst (IsNew sets) (sym key) (over_new sets c.lent.result.key over c.in_default.ensures.number)
 
 pub returns-clause-state : goal.returns-clause-state
@@ -77,11 +77,11 @@ returns-clause-state g c = λ s e.
     let empty : Fold = g.A.Aggregator.empty c.self.inside.config in
     let entries : List Entry = t.table.entries in
     let before : MapState = record { limit = c.self.inside.limit; empty = empty; table = t.table } in
-    let ready : IsReady t _ _ set c.in-New.list = new-prepared t _ _ c.self.inside.pending set c.in-New.list c.self.invariant.3 c.in-New.ensures.taken in
-    let same : set ≡ s = new-set t.numbers c.self.inside.pending set s c.in-New.list c.in-New.ensures.taken (ap (λ (h : MapContents). h.pending) c.self.view_is ∙ e) in
+    let ready : IsReady t _ _ set c.in-New.list = new-prepared t _ _ c.self.inside.pending set c.in-New.list c.self.invariant.3 c.in-New.ensures.value in
+    let same : set ≡ s = new-set t.numbers c.self.inside.pending set s c.in-New.list c.in-New.ensures.value (ap (λ (h : MapContents). h.pending) c.self.view_is ∙ e) in
     let full : nat_lt (number_counted entries) c.self.inside.limit ≡ false = rw (← c.self.invariant.0) (not_below _ _ (omega (arith, c.if-self.false))) in
     let over : c.lent.result.key ≡ over_set = c.lent.ensures ∙ made_key c.self.inside.spare_key c.unwrap-overflow.result.now c.self.invariant.2 (sym c.as_ref.ensures.value ∙ ap option_copied c.unwrap-overflow.ensures) in
-    let key : c.unwrap-key.result ≡ over_set = made_key c.self.inside.spare_key c.unwrap-key.result c.self.invariant.2 (sym c.take-2.ensures.value ∙ c.unwrap-key.ensures) in
+    let key : c.unwrap-key.result ≡ over_set = made_key c.self.inside.spare_key c.unwrap-key.result c.self.invariant.2 (sym c.take.ensures.value ∙ c.unwrap-key.ensures) in
     let gone : has over_set entries ≡ false = ap (λ (x : AttributeSet). has x entries) (sym over) ∙ sym c.in_default.ensures.placed in
     let place : Placing c.self.inside.limit empty set entries _ over_set = place-over_made c.self.inside.limit empty set entries ready.new.some ready.absent full gone in
     let after : c.add-2.new.self.table.entries ≡ entries ++ new_entry empty over_set false ∷ [] =
@@ -96,11 +96,11 @@ returns-clause-number g c = λ s e.
     let set : AttributeSet = c.in-New.set in
     let empty : Fold = g.A.Aggregator.empty c.self.inside.config in
     let entries : List Entry = t.table.entries in
-    let ready : IsReady t _ _ set c.in-New.list = new-prepared t _ _ c.self.inside.pending set c.in-New.list c.self.invariant.3 c.in-New.ensures.taken in
-    let same : set ≡ s = new-set t.numbers c.self.inside.pending set s c.in-New.list c.in-New.ensures.taken (ap (λ (h : MapContents). h.pending) c.self.view_is ∙ e) in
+    let ready : IsReady t _ _ set c.in-New.list = new-prepared t _ _ c.self.inside.pending set c.in-New.list c.self.invariant.3 c.in-New.ensures.value in
+    let same : set ≡ s = new-set t.numbers c.self.inside.pending set s c.in-New.list c.in-New.ensures.value (ap (λ (h : MapContents). h.pending) c.self.view_is ∙ e) in
     let full : nat_lt (number_counted entries) c.self.inside.limit ≡ false = rw (← c.self.invariant.0) (not_below _ _ (omega (arith, c.if-self.false))) in
     let over : c.lent.result.key ≡ over_set = c.lent.ensures ∙ made_key c.self.inside.spare_key c.unwrap-overflow.result.now c.self.invariant.2 (sym c.as_ref.ensures.value ∙ ap option_copied c.unwrap-overflow.ensures) in
-    let key : c.unwrap-key.result ≡ over_set = made_key c.self.inside.spare_key c.unwrap-key.result c.self.invariant.2 (sym c.take-2.ensures.value ∙ c.unwrap-key.ensures) in
+    let key : c.unwrap-key.result ≡ over_set = made_key c.self.inside.spare_key c.unwrap-key.result c.self.invariant.2 (sym c.take.ensures.value ∙ c.unwrap-key.ensures) in
     let gone : has over_set entries ≡ false = ap (λ (x : AttributeSet). has x entries) (sym over) ∙ sym c.in_default.ensures.placed in
     let place : Placing c.self.inside.limit empty set entries _ over_set = place-over_made c.self.inside.limit empty set entries ready.new.some ready.absent full gone in
     let after : c.add-2.new.self.table.entries ≡ entries ++ new_entry empty over_set false ∷ [] =
@@ -115,6 +115,6 @@ pub returns-clause-numbers : goal.returns-clause-numbers
 returns-clause-numbers g c =
     let t = c.self.inside.table in
     let over : c.lent.result.key ≡ over_set = c.lent.ensures ∙ made_key c.self.inside.spare_key c.unwrap-overflow.result.now c.self.invariant.2 (sym c.as_ref.ensures.value ∙ ap option_copied c.unwrap-overflow.ensures) in
-    let key : c.unwrap-key.result ≡ over_set = made_key c.self.inside.spare_key c.unwrap-key.result c.self.invariant.2 (sym c.take-2.ensures.value ∙ c.unwrap-key.ensures) in
+    let key : c.unwrap-key.result ≡ over_set = made_key c.self.inside.spare_key c.unwrap-key.result c.self.invariant.2 (sym c.take.ensures.value ∙ c.unwrap-key.ensures) in
     let new : IsNew t.numbers.sets c.unwrap-key.result = subst (IsNew t.numbers.sets) (sym key) (over_new t.numbers.sets c.lent.result.key over c.in_default.ensures.number) in
     rw (← c.self.view_is) (numbers-added t.numbers c.add-2.new.self.numbers c.unwrap-key.result c.add-2.result c.add-2.ensures.none c.add-2.ensures.sets new).0
