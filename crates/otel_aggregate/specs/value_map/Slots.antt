@@ -70,10 +70,6 @@ left_of (Some k) = cond (remains k) (Some (forgotten k)) None
 abbrev pub at_slot : ℕ → (Kept → Kept) → Look → Look
 at_slot n f look m = cond (nat_eq n m) (option_map f (look m)) (look m)
 
--- the slots, with what f makes of the one of this number
-abbrev pub changed_at : (Option Kept → Option Kept) → ℕ → Look → Look
-changed_at f n look m = cond (nat_eq n m) (f (look m)) (look m)
-
 -- the slots, with this in the one of this number
 abbrev pub with_slot : ℕ → Kept → Look → Look
 with_slot n k look m = cond (nat_eq n m) (Some k) (look m)
@@ -90,10 +86,6 @@ entry_of s (Some k) = record { set = s; counted = k.counted; updated = k.updated
 -- a set with the number of its slot
 abbrev pub Keyed : Type 0
 Keyed = AttributeSet × ℕ
-
--- the slots, with what f makes of each of those that these sets lead to
-abbrev pub changed_each : (Option Kept → Option Kept) → List Keyed → Look → Look
-changed_each f es look n = cond (is_member nat_eq (values_of es) n) (f (look n)) (look n)
 
 abbrev pub entry_at : Look → Keyed → Entry
 entry_at look e = entry_of e.0 (look e.1)

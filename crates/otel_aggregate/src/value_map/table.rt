@@ -15,7 +15,7 @@ ghost use Rattle.otel_model_stream.specs.Entries.{point_of_entry, new_entry, has
 ghost use Rattle.std.specs.List.{AllByRecursion, IsDistinct};
 ghost use Rattle.otel_aggregate.specs.value_map.Keyed.{Fits, found, IsNew, IsSpelling, with_spelling};
 ghost use Rattle.otel_aggregate.specs.value_map.Numbers.{number_of, handles_at, AreNamed, AreNumbered, KeepLeft, IsNumberOf, is_number};
-ghost use Rattle.otel_aggregate.specs.value_map.Slots.{HasForm, Look, SameLook, look_in, kept_of, changed_each, left_of, entry_of, entry_at, number_updated};
+ghost use Rattle.otel_aggregate.specs.value_map.Slots.{HasForm, Look, look_in, kept_of, entry_of, entry_at, number_updated};
 
 use crate::aggregators::aggregator::Aggregator;
 use crate::sets::allowed_keys::AllowedKeys;
@@ -24,7 +24,7 @@ use crate::value_map::hashed_key::{HashedSet, OwnedSet};
 use crate::value_map::hashing::SetHashBuilder;
 use crate::value_map::key_table::KeyTable;
 use crate::value_map::maker::PointMaker;
-use crate::value_map::slots::{Slot, fill, forget, free, hold, release, settle, touch};
+use crate::value_map::slots::{Slot, clear_others, fill, hold, release, settle, touch};
 use otel_common::attributes::KeyValue;
 use otel_common::faults::Fault;
 use otel_common::lists::SharedItems;
@@ -204,26 +204,6 @@ fn count_counted<A: Aggregator>(slots: &Slab<Slot<A>>, keys: &KeyTable) -> usize
         }
     }
     count
-}
-
-/// Forgets the records in the slots of the sets, or frees those that evictions don't spare.
-fn settle_each<A: Aggregator>(slots: &mut Slab<Slot<A>>, keys: &KeyTable)
-    requires apart { IsDistinct nat_eq (values_of keys.now.sets) }
-    ensures look { SameLook (look_in A.meaning slots.new) (changed_each left_of keys.now.sets (look_in A.meaning slots.old)) }
-{
-    for (_, number) in keys.sets() {
-        settle(slots, *number);
-    }
-}
-
-/// Frees the slots of the sets.
-fn free_each<A: Aggregator>(slots: &mut Slab<Slot<A>>, keys: &KeyTable)
-    requires apart { IsDistinct nat_eq (values_of keys.now.sets) }
-    ensures look { SameLook (look_in A.meaning slots.new) (changed_each (λ _. None) keys.now.sets (look_in A.meaning slots.old)) }
-{
-    for (_, number) in keys.sets() {
-        free(slots, *number);
-    }
 }
 
 /// The aggregator in the slot with this number, if the slot was updated.
@@ -410,8 +390,7 @@ impl<A: Aggregator> Table<A> {
         ensures numbers { KeepLeft (evicted_table self.old.table).entries self.old.numbers self.new.numbers }
         ensures aliases { keys_of self.new.aliases ≡ filter (λ l. has (canon l) (evicted_table self.old.table).entries) (keys_of self.old.aliases) }
     {
-        settle(&mut self.slots, self.none);
-        settle_each(&mut self.slots, &self.keys);
+        settle(&mut self.slots);
         self.keys.keep_filled(&self.slots);
     }
 
@@ -461,8 +440,7 @@ impl<A: Aggregator> Table<A> {
         ensures sets { self.new.numbers.sets ≡ [] }
         ensures aliases { self.new.aliases ≡ [] }
     {
-        free_each(&mut self.slots, &self.keys);
-        forget(&mut self.slots, self.none);
+        clear_others(&mut self.slots, self.none);
         self.keys.clear();
     }
 
