@@ -123,7 +123,7 @@ impl<A: Aggregator> ValueMap<A> {
         ensures only_memory { IsOkUnless result Fault.OutOfMemory }
     {
         let none = A::create(alloc, &config)?;
-        let table = Table::new(alloc, hasher, none)?;
+        let table = Table::new(alloc, hasher, Slot::new(none, false, true))?;
         Ok(ValueMap {
             alloc,
             config,

@@ -1,8 +1,6 @@
 -- What is kept in slots, as the model's entries.
-use Rattle.std.specs.Prelude.{◌≡◌, ℕ, ◌+◌, ◌-◌, nat_eq, nat_lt, ◌||◌, Bool, true, false, cond, List, map, filter, length, Option, Some, None}
+use Rattle.std.specs.Prelude.{◌≡◌, ℕ, ◌+◌, ◌-◌, nat_eq, nat_lt, ◌||◌, Bool, true, false, cond, List, map, Option, Some, None}
 use Rattle.std.specs.Option.{option_map}
-use Rattle.std.specs.Map.{values_of}
-use Rattle.std.specs.Set.{is_member}
 use Rattle.slab.specs.Slab.{Slab, get}
 use Rattle.otel_model_stream.specs.Sets.{AttributeSet, none_set}
 use Rattle.otel_model_stream.specs.Folds.{Fold, Total, Sample, record_fold, clear_fold}
@@ -89,10 +87,6 @@ Keyed = AttributeSet × ℕ
 
 abbrev pub entry_at : Look → Keyed → Entry
 entry_at look e = entry_of e.0 (look e.1)
-
--- how many entries were updated
-abbrev pub number_updated : List Entry → ℕ
-number_updated es = length (filter (λ (e : Entry). e.updated) es)
 
 -- the table of these slots: the entry of the empty set, and those of the sets, by their slots' numbers
 abbrev pub table_at : Look → ℕ → List Keyed → Table
