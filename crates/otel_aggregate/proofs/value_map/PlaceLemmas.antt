@@ -12,6 +12,7 @@ use Rattle.otel_model_stream.specs.Sets.{AttributeSet, none_set, over_set}
 use Rattle.otel_model_stream.specs.Entries.{Entry, Table, new_entry, is_of, has, number_counted, entries_with_place, entry_for, place, at_entry, write}
 use Rattle.otel_model_stream.specs.Maps.{MapState, with_place, measured_map, measured_list, bound_to}
 use Rattle.otel_aggregate.specs.value_map.Keyed.{Slotted, IsNew}
+use Rattle.otel_aggregate.specs.value_map.Slots.{Kept, entry_of, new_kept}
 use Rattle.otel_aggregate.specs.value_map.Numbers.{Numbers, number_of, KeepNumbers, is_placed, set_named, handles_in, handles_at}
 use Rattle.otel_aggregate.specs.value_map.Contents.{MapContents, IsOverflowAt, IsPlan, IsPlanAt, IsSound, IsReady, pending_in, target_of}
 use Rattle.otel_aggregate.specs.declared.value_map.pending.Pending.{Pending}
@@ -65,7 +66,7 @@ module _ (limit : ℕ) (empty : Fold) (s : AttributeSet) (entries : List Entry) 
             sym (same_set over_set s (flat (set_eq over_set s) one))
 
 -- what a placing says of the whole state
-pub as_state : (st : MapState) (s : AttributeSet) (t : Table) (goal : AttributeSet) → t.none ≡ st.table.none → Placing st.limit st.empty s st.table.entries t.entries goal → record st { table = t } ≡ with_place s st
+as_state : (st : MapState) (s : AttributeSet) (t : Table) (goal : AttributeSet) → t.none ≡ st.table.none → Placing st.limit st.empty s st.table.entries t.entries goal → record st { table = t } ≡ with_place s st
 as_state st s t goal none p = λ i. record st { table = record { none = none i; entries = p.state i } }
 
 -- a record of a set that uses an entry that is there
@@ -140,12 +141,30 @@ pub made_key : (o : Option AttributeSet) (key : AttributeSet) → IfSome o (λ k
 made_key o key h e = let P : Option AttributeSet → Type 0 = λ p. IfSome p (λ k. k ≡ over_set) in subst P e h
 
 -- the numbers with one more
-pub numbers-added : (old new : Numbers) (s : AttributeSet) (n : ℕ) → new.none ≡ old.none → new.sets ≡ old.sets ++ (s, n) ∷ [] → IsNew old.sets s → KeepNumbers old new × (number_of s new ≡ Some n)
+numbers-added : (old new : Numbers) (s : AttributeSet) (n : ℕ) → new.none ≡ old.none → new.sets ≡ old.sets ++ (s, n) ∷ [] → IsNew old.sets s → KeepNumbers old new × (number_of s new ≡ Some n)
 numbers-added old new s n none sets fresh_set =
     let is : new ≡ record { none = old.none; sets = old.sets ++ (s, n) ∷ [] } = λ i. record { none = none i; sets = sets i } in (
       subst (KeepNumbers old) (sym is) (numbers-pushed old.none old.sets (s, n)),
       ap (number_of s) is ∙ ap (λ b. cond b (Some old.none) (lookup (set_eq s) (old.sets ++ (s, n) ∷ []))) fresh_set.some ∙ lookup-pushed s old.sets n fresh_set.absent,
     )
+
+-- a new entry of the set `used` is the one that the set uses
+pub record Placed (limit : ℕ) (empty : Fold) (t after : Slotted) (n : ℕ) (s : AttributeSet) : Type 0 where
+  pub state : record { limit = limit; empty = empty; table = after.table } ≡ with_place s (record { limit = limit; empty = empty; table = t.table })
+  pub number : number_of (entry_for s after.table.entries) after.numbers ≡ Some n
+  pub numbers : KeepNumbers t.numbers after.numbers
+
+pub placed : (limit : ℕ) (empty : Fold) (t after : Slotted) (n : ℕ) (s used : AttributeSet) (counted lasting : Bool) (slot : Kept) → Placing limit empty s t.table.entries (t.table.entries ++ new_entry empty used counted ∷ []) used → IsNew t.numbers.sets used
+    → slot ≡ new_kept empty counted lasting → after.table ≡ record t.table { entries = t.table.entries ++ entry_of used (Some slot) ∷ [] } → after.numbers.none ≡ t.numbers.none → after.numbers.sets ≡ t.numbers.sets ++ (used, n) ∷ [] → Placed limit empty t after n s
+placed limit empty t after n s used counted lasting slot place new made table none sets =
+    let entries : after.table.entries ≡ t.table.entries ++ new_entry empty used counted ∷ [] = ap (λ (x : Table). x.entries) table ∙ ap (λ (k : Kept). t.table.entries ++ entry_of used (Some k) ∷ []) made in
+    let p : Placing limit empty s t.table.entries after.table.entries used = subst (λ (es : List Entry). Placing limit empty s t.table.entries es used) (sym entries) place in
+    let added = numbers-added t.numbers after.numbers used n none sets new in
+    record {
+      state = as_state (record { limit = limit; empty = empty; table = t.table }) s after.table used (ap (λ (x : Table). x.none) table) p;
+      number = ap (λ (x : AttributeSet). number_of x after.numbers) p.goal ∙ added.1;
+      numbers = added.0;
+    }
 
 -- nothing is prepared any more
 pub nothing-left : (ns : Numbers) (p : Pending) → pending_in ns p ≡ None → p ≡ Nothing
