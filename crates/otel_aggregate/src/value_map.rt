@@ -289,8 +289,8 @@ impl<A: Aggregator> ValueMap<A> {
     /// Prepares a record or a bind, as `prepare` does, for those of the attributes whose key is in the allow-list
     /// (Metrics SDK, "View").
     ///
-    /// It looks up what is kept without copying it, as given, by references to up to 16 attributes that it finds once,
-    /// and otherwise by sorted references.
+    /// It looks up what is kept without copying it, as given, by references that it finds once. For more than 16 they
+    /// take memory; if it is refused, the canonical form of what is kept is looked for without being made.
     #[inline(never)]
     pub(crate) fn prepare_allowed(
         &mut self,
@@ -312,37 +312,16 @@ impl<A: Aggregator> ValueMap<A> {
             self.prepare_list(&list, Some(allow), attributes)?;
             return Ok(());
         }
-        self.prepare_many_allowed(allow, attributes)
-    }
-
-    /// Does what `prepare_allowed` does where too many attributes are kept for references without memory. If memory for
-    /// these is refused, it looks for the canonical form of what is kept without making it.
-    #[inline(never)]
-    fn prepare_many_allowed(
-        &mut self,
-        allow: &AllowedKeys,
-        attributes: &[KeyValue],
-    ) -> Result<(), Fault>
-        ensures same { self.new.state ≡ self.old.state }
-        ensures numbers { self.new.numbers ≡ self.old.numbers }
-        ensures given { self.new.given ≡ self.old.given }
-        ensures ready { OnOk result (self.new.pending ≡ Some (set_of (Some allow.now) attributes.now)) }
-        ensures spelling { OnOk result (self.new.spelling ≡ spelling_of (allowed_part (Some allow.now) attributes.now) self.old.state) }
-        ensures refused { OnErr result (self.new.pending ≡ None) }
-        ensures known { SucceedsIfKnown (allowed_part (Some allow.now) attributes.now) (known_of self.old) result }
-        ensures placed { IsTrue (is_placed (set_of (Some allow.now) attributes.now) self.old.state.table.entries) → IsOk result }
-        ensures only_memory { IsOkUnless result Fault.OutOfMemory }
-    {
-        let Ok(references) = references_to(self.alloc, Some(allow), attributes) else {
-            self.pending.give_up();
-            let Some(number) = form_led_to(&self.table, Some(allow), attributes) else {
-                return Err(Fault::OutOfMemory);
-            };
-            self.pending = Pending::At(number);
+        if let Ok(references) = references_to(self.alloc, Some(allow), attributes) {
+            let list = HashedSet::referenced(self.table.hasher(), references.as_slice());
+            self.prepare_list(&list, Some(allow), attributes)?;
             return Ok(());
+        }
+        self.pending.give_up();
+        let Some(number) = form_led_to(&self.table, Some(allow), attributes) else {
+            return Err(Fault::OutOfMemory);
         };
-        let list = HashedSet::referenced(self.table.hasher(), references.as_slice());
-        self.prepare_list(&list, Some(allow), attributes)?;
+        self.pending = Pending::At(number);
         Ok(())
     }
 
