@@ -16,7 +16,6 @@ use crate::sets::allowed_keys::AllowedKeys;
 use crate::sets::forms::is_form_of;
 use crate::sets::references::{few_references, many_references};
 use crate::value_map::hashed_key::{HashedSet, OwnedSet};
-use crate::value_map::hashing::SetHashBuilder;
 use crate::value_map::sets::overflow_set;
 use crate::value_map::slots::Slot;
 use crate::value_map::table::Table;
@@ -170,38 +169,6 @@ pub fn plan<A: Aggregator>(
     }
 }
 
-/// Makes an aggregator in advance, unless there is one already.
-fn make_unused<A: Aggregator>(
-    unused: &mut Option<A>,
-    alloc: Global,
-    config: &A::InitConfig,
-) -> Result<(), Fault>
-    requires { IfSome unused.old (λ made. A.meaning made ≡ A.empty config.now) }
-    ensures empty { IfSome unused.new (λ made. A.meaning made ≡ A.empty config.now) }
-    ensures made { OnOk result (is_some unused.new ≡ true) }
-    ensures only_memory { IsOkUnless result Fault.OutOfMemory }
-{
-    if unused.is_some() {
-        return Ok(());
-    }
-    *unused = Some(A::create(alloc, config)?);
-    Ok(())
-}
-
-/// Makes the set of the overflow entry in advance, unless there is one already.
-fn make_key(key: &mut Option<OwnedSet>, hasher: SetHashBuilder, alloc: Global) -> Result<(), Fault>
-    requires { IfSome key.old (λ made. made ≡ over_set) }
-    ensures over { IfSome key.new (λ made. made ≡ over_set) }
-    ensures made { OnOk result (is_some key.new ≡ true) }
-    ensures only_memory { IsOkUnless result Fault.OutOfMemory }
-{
-    if key.is_some() {
-        return Ok(());
-    }
-    *key = Some(OwnedSet::new(hasher, overflow_set(alloc)?));
-    Ok(())
-}
-
 /// Makes in advance what a new entry takes: room in the table, an aggregator, and the set of the overflow entry.
 pub fn make_ready<A: Aggregator>(
     table: &mut Table<A>,
@@ -221,8 +188,12 @@ pub fn make_ready<A: Aggregator>(
     ensures only_memory { IsOkUnless result Fault.OutOfMemory }
 {
     table.make_room()?;
-    make_unused(unused, alloc, config)?;
-    make_key(key, table.hasher(), alloc)?;
+    if unused.is_none() {
+        *unused = Some(A::create(alloc, config)?);
+    }
+    if key.is_none() {
+        *key = Some(OwnedSet::new(table.hasher(), overflow_set(alloc)?));
+    }
     Ok(())
 }
 
