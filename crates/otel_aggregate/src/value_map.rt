@@ -160,10 +160,8 @@ impl<A: Aggregator> ValueMap<A> {
             self.pending = Pending::At(number);
             return Ok(());
         }
-        match self.prepare_unknown(list, allow, attributes, None) {
-            Ok(()) => Ok(()),
-            Err(_) => Err(AllocError),
-        }
+        self.prepare_unknown(list, allow, attributes, None)
+            .map_err(|_| AllocError)
     }
 
     /// Does what `prepare_list` does with a list that, as given, leads to no entry. If `overflow` is the number of the overflow
@@ -487,8 +485,7 @@ impl<A: Aggregator> ValueMap<A> {
         let Some(overflow) = &self.spare_key else {
             return 0;
         };
-        let set = overflow.lent();
-        match self.table.find_set(&set) {
+        match self.table.find_set(&overflow.lent()) {
             Some(number) => self.table.handles(number),
             None => 0,
         }

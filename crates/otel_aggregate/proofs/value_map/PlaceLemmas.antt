@@ -20,7 +20,6 @@ use Rattle.otel_aggregate.specs.declared.value_map.pending.Pending.TheVariants.{
 use Rattle.otel_aggregate.proofs.value_map.CanonicalSets.{some-canon}
 use Rattle.otel_aggregate.proofs.value_map.KeyedLemmas.{same_set, set_eq-self, set_eq-flip}
 use Rattle.otel_aggregate.proofs.value_map.AddLemmas.{lookup-pushed, numbers-pushed}
-use Rattle.otel_aggregate.proofs.value_map.TableLemmas.{counted_cons}
 
 -- what a place does: the entries, and which of them the set uses
 pub record Placing (limit : ℕ) (empty : Fold) (s : AttributeSet) (entries after : List Entry) (used : AttributeSet) : Type 0 where
@@ -107,15 +106,6 @@ target-measured (Some n) l v h some over = by (has (canon l) h.state.table.entri
         ap (λ b. measured_map (cond (not b) over_set (canon l)) v m) e
         ∙ measured-by m over_set v over_set (place-there m.limit m.empty over_set m.table.entries over.1)
         ∙ sym (measured-by m (canon l) v over_set (place-over m.limit m.empty (canon l) m.table.entries (some-canon l some) e over.0 over.1))
-
--- an entry more counts one more
-pub counted-push : (entries : List Entry) (e : Entry) → number_counted (entries ++ e ∷ []) ≡ cond e.counted 1 0 + number_counted entries
-counted-push [] e = counted_cons e []
-counted-push (r ∷ rs) e =
-    let one = counted_cons r (rs ++ e ∷ []) in
-    let two = counted_cons r rs in
-    let rest = counted-push rs e in
-    omega (arith, one, two, rest)
 
 -- ======== what is prepared ========
 pub sound-nothing : (t : Slotted) (few room : Bool) (p : Pending) → p ≡ Nothing → IsSound t few room p
@@ -209,11 +199,11 @@ handles-away : (x : AttributeSet) (es : List Entry) → has x es ≡ false → h
 handles-away x [] e = refl
 handles-away x (r ∷ rs) e = let q = or_parts (is_of x r) (has x rs) e in (λ i. cond (q.0 i) r.handles (handles_in x rs)) ∙ handles-away x rs q.1
 
-pub no_handles : (x : AttributeSet) (t : Table) → t.none.set ≡ none_set → set_eq x none_set ≡ false → has x t.entries ≡ false → handles_at x t ≡ 0
-no_handles x t is some away =
-    ap (λ k. cond (set_eq k x) t.none.handles (handles_in x t.entries)) is
-    ∙ (ap (λ b. cond b t.none.handles (handles_in x t.entries)) (set_eq-flip none_set x ∙ some) ∙ handles-away x t.entries away)
-
--- the entry that a bind uses
-pub bound-by : (m : MapState) (s : AttributeSet) (after : List Entry) (used : AttributeSet) → Placing m.limit m.empty s m.table.entries after used → bound_to s m ≡ used
-bound-by m s after used p = ap (entry_for s) (sym p.state) ∙ p.goal
+-- nor has the entry that a bind uses, where that is still to be made
+pub unheld : (m : MapState) (s : AttributeSet) (after : List Entry) (used : AttributeSet) → Placing m.limit m.empty s m.table.entries after used → m.table.none.set ≡ none_set → set_eq used none_set ≡ false → has used m.table.entries ≡ false → 0 ≡ handles_at (bound_to s m) m.table
+unheld m s after used p is some away =
+    let t : Table = m.table in
+    sym (ap (λ (es : List Entry). handles_at (entry_for s es) t) (sym p.state) ∙ ap (λ (x : AttributeSet). handles_at x t) p.goal
+    ∙ ap (λ (k : AttributeSet). cond (set_eq k used) t.none.handles (handles_in used t.entries)) is
+    ∙ ap (λ b. cond b t.none.handles (handles_in used t.entries)) (set_eq-flip none_set used ∙ some)
+    ∙ handles-away used t.entries away)
