@@ -1,12 +1,11 @@
 pub mod CanonicalSets
 pub mod HashedLemmas
-pub mod SlotLemmas
+pub mod RetainLemmas
 pub mod TableLemmas
 pub mod KeyedLemmas
 pub mod TouchLemmas
 pub mod AddLemmas
 pub mod LeftLemmas
-pub mod SettledLemmas
 pub mod ShownLemmas
 pub mod PlanLemmas
 pub mod PlaceLemmas

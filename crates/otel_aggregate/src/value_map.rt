@@ -23,9 +23,7 @@ use crate::value_map::draft::Draft;
 use crate::value_map::hashed_key::{GivenAttributes, HashedSet, OwnedSet};
 use crate::value_map::hashing::SetHashBuilder;
 use crate::value_map::maker::{Copies, PointMaker};
-use crate::value_map::pending::{
-    Pending, Prepared, form_led_to, led_to, make_ready, plan, take_slot,
-};
+use crate::value_map::pending::{Pending, form_led_to, led_to, make_ready, plan, take_slot};
 use crate::value_map::slots::Slot;
 use crate::value_map::table::Table;
 use otel_common::attributes::KeyValue;
@@ -33,7 +31,7 @@ use otel_common::faults::Fault;
 use otel_common::lists::SharedItems;
 use std::alloc::{AllocError, Global};
 use std::marker::Model;
-use std::mem::swap;
+use std::mem::{replace, swap};
 
 pub mod draft;
 pub mod hashed_key;
@@ -67,7 +65,7 @@ pub struct ValueMap<A: Aggregator> {
     unused: Option<A>,
     /// The set of the overflow entry, made in advance as that entry's key, and for looking it up.
     spare_key: Option<OwnedSet>,
-    pending: Prepared,
+    pending: Pending,
 }
 
 impl<A: Aggregator> Model for ValueMap<A> {
@@ -125,7 +123,7 @@ impl<A: Aggregator> ValueMap<A> {
         ensures only_memory { IsOkUnless result Fault.OutOfMemory }
     {
         let none = A::create(alloc, &config)?;
-        let table = Table::new(alloc, hasher, none)?;
+        let table = Table::new(alloc, hasher, Slot::new(none, false, true))?;
         Ok(ValueMap {
             alloc,
             config,
@@ -134,7 +132,7 @@ impl<A: Aggregator> ValueMap<A> {
             table,
             unused: None,
             spare_key: None,
-            pending: Prepared::nothing(),
+            pending: Pending::Nothing,
         })
     }
 
@@ -158,13 +156,12 @@ impl<A: Aggregator> ValueMap<A> {
         ensures placed { IsTrue (is_placed (canon list.now.key) self.old.state.table.entries) → IsOk result }
     {
         if let Some(number) = led_to(&self.table, list) {
-            self.pending.put_at(number);
+            self.pending.give_up();
+            self.pending = Pending::At(number);
             return Ok(());
         }
-        match self.prepare_unknown(list, allow, attributes, None) {
-            Ok(()) => Ok(()),
-            Err(_) => Err(AllocError),
-        }
+        self.prepare_unknown(list, allow, attributes, None)
+            .map_err(|_| AllocError)
     }
 
     /// Does what `prepare_list` does with a list that, as given, leads to no entry. If `overflow` is the number of the overflow
@@ -201,8 +198,8 @@ impl<A: Aggregator> ValueMap<A> {
             allow,
             attributes,
         )?;
-        if !plan.is_new() {
-            self.pending.put(plan);
+        if let Pending::At(_) = plan {
+            self.pending = plan;
             return Ok(());
         }
         make_ready(
@@ -212,7 +209,7 @@ impl<A: Aggregator> ValueMap<A> {
             self.alloc,
             &self.config,
         )?;
-        self.pending.put(plan);
+        self.pending = plan;
         Ok(())
     }
 
@@ -226,10 +223,11 @@ impl<A: Aggregator> ValueMap<A> {
         ensures given { self.new.given ≡ self.old.given ++ self.old.spelling }
         ensures spent { self.new.pending ≡ None }
     {
-        match self.pending.take_number() {
-            Some(number) => number,
-            None => self.place_new(),
+        if let Pending::At(number) = self.pending {
+            self.pending = Pending::Nothing;
+            return number;
         }
+        self.place_new()
     }
 
     /// Does what `place` does, out of line, as few records are for a set that has no entry.
@@ -242,7 +240,7 @@ impl<A: Aggregator> ValueMap<A> {
         ensures given { self.new.given ≡ self.old.given ++ self.old.spelling }
         ensures spent { self.new.pending ≡ None }
     {
-        let (set, list) = match self.pending.take() {
+        let (set, list) = match replace(&mut self.pending, Pending::Nothing) {
             Pending::Nothing => return self.table.none(),
             Pending::At(number) => return number,
             Pending::New(set, list) => (set, list),
@@ -289,8 +287,8 @@ impl<A: Aggregator> ValueMap<A> {
     /// Prepares a record or a bind, as `prepare` does, for those of the attributes whose key is in the allow-list
     /// (Metrics SDK, "View").
     ///
-    /// It looks up what is kept without copying it, as given, by references to up to 16 attributes that it finds once,
-    /// and otherwise by sorted references.
+    /// It looks up what is kept without copying it, as given, by references that it finds once. For more than 16 they
+    /// take memory; if it is refused, the canonical form of what is kept is looked for without being made.
     #[inline(never)]
     pub(crate) fn prepare_allowed(
         &mut self,
@@ -312,37 +310,16 @@ impl<A: Aggregator> ValueMap<A> {
             self.prepare_list(&list, Some(allow), attributes)?;
             return Ok(());
         }
-        self.prepare_many_allowed(allow, attributes)
-    }
-
-    /// Does what `prepare_allowed` does where too many attributes are kept for references without memory. If memory for
-    /// these is refused, it looks for the canonical form of what is kept without making it.
-    #[inline(never)]
-    fn prepare_many_allowed(
-        &mut self,
-        allow: &AllowedKeys,
-        attributes: &[KeyValue],
-    ) -> Result<(), Fault>
-        ensures same { self.new.state ≡ self.old.state }
-        ensures numbers { self.new.numbers ≡ self.old.numbers }
-        ensures given { self.new.given ≡ self.old.given }
-        ensures ready { OnOk result (self.new.pending ≡ Some (set_of (Some allow.now) attributes.now)) }
-        ensures spelling { OnOk result (self.new.spelling ≡ spelling_of (allowed_part (Some allow.now) attributes.now) self.old.state) }
-        ensures refused { OnErr result (self.new.pending ≡ None) }
-        ensures known { SucceedsIfKnown (allowed_part (Some allow.now) attributes.now) (known_of self.old) result }
-        ensures placed { IsTrue (is_placed (set_of (Some allow.now) attributes.now) self.old.state.table.entries) → IsOk result }
-        ensures only_memory { IsOkUnless result Fault.OutOfMemory }
-    {
-        let Ok(references) = references_to(self.alloc, Some(allow), attributes) else {
-            self.pending.give_up();
-            let Some(number) = form_led_to(&self.table, Some(allow), attributes) else {
-                return Err(Fault::OutOfMemory);
-            };
-            self.pending.put_at(number);
+        if let Ok(references) = references_to(self.alloc, Some(allow), attributes) {
+            let list = HashedSet::referenced(self.table.hasher(), references.as_slice());
+            self.prepare_list(&list, Some(allow), attributes)?;
             return Ok(());
+        }
+        self.pending.give_up();
+        let Some(number) = form_led_to(&self.table, Some(allow), attributes) else {
+            return Err(Fault::OutOfMemory);
         };
-        let list = HashedSet::referenced(self.table.hasher(), references.as_slice());
-        self.prepare_list(&list, Some(allow), attributes)?;
+        self.pending = Pending::At(number);
         Ok(())
     }
 
@@ -360,7 +337,7 @@ impl<A: Aggregator> ValueMap<A> {
     pub(crate) fn is_prepared(&self) -> bool
         ensures { result ≡ is_some self.now.pending }
     {
-        self.pending.is_some()
+        !matches!(self.pending, Pending::Nothing)
     }
 
     /// Takes in the prepared record; `is_prepared` tells whether there is one. This is the second phase; it looks nothing
@@ -496,7 +473,7 @@ impl<A: Aggregator> ValueMap<A> {
     fn handles_there(&self) -> u64
         ensures { (s : AttributeSet) → self.now.pending ≡ Some s → result ≡ handles_at (bound_to s self.now.state) self.now.state.table }
     {
-        if let Some(number) = self.pending.number() {
+        if let Pending::At(number) = self.pending {
             return self.table.handles(number);
         }
         // Tells the prover that the first entry is the empty set's.
@@ -508,8 +485,7 @@ impl<A: Aggregator> ValueMap<A> {
         let Some(overflow) = &self.spare_key else {
             return 0;
         };
-        let set = overflow.lent();
-        match self.table.find_set(&set) {
+        match self.table.find_set(&overflow.lent()) {
             Some(number) => self.table.handles(number),
             None => 0,
         }

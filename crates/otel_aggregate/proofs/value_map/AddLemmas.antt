@@ -1,6 +1,6 @@
 -- A new key and its slot.
-use Rattle.std.proofs.Common.{ℕ, ◌≡◌, Bool, true, false, cond, List, [], ◌∷◌, ◌++◌, Option, Some, None, is_some, map, refl, sym, ap, subst, ◌∙◌, nat_eq, true≢false, eqb-true}
-use Rattle.std.specs.List.{AllByRecursion, IsDistinct}
+use Rattle.std.proofs.Common.{ℕ, ◌≡◌, Bool, true, false, cond, ◌||◌, List, [], ◌∷◌, ◌++◌, Option, Some, None, is_some, map, refl, sym, ap, subst, ◌∙◌, nat_eq, true≢false, eqb-true}
+use Rattle.std.specs.List.{AllByRecursion, IsDistinct, list_any}
 use Rattle.std.specs.Map.{lookup, keys_of, values_of}
 use Rattle.std.specs.Set.{is_member}
 use Rattle.std.proofs.lemmas.Cmp.{nat_eq_equiv}
@@ -14,7 +14,10 @@ use Rattle.otel_aggregate.specs.value_map.Slots.{Kept, Look, SameLook, Keyed, wi
 use Rattle.otel_aggregate.specs.value_map.Keyed.{Fits, Links, IsConsistent, IsNew, IsSpelling, is_lasting, is_counted, with_spelling}
 use Rattle.otel_aggregate.specs.value_map.Numbers.{KeepNumbers}
 use Rattle.otel_aggregate.proofs.value_map.KeyedLemmas.{set_eq-self, set_eq_equiv, same_number, entries-same, fits-as, linked-set}
-use Rattle.otel_aggregate.proofs.value_map.SlotLemmas.{any_none}
+
+any_none : (n : ℕ) (ys : List ℕ) → AllByRecursion (λ y. nat_eq n y ≡ false) ys → list_any (nat_eq n) ys ≡ false
+any_none n [] h = refl
+any_none n (y ∷ ys) h = ap (λ b. b || list_any (nat_eq n) ys) h.0 ∙ any_none n ys h.1
 
 -- a filled slot is none that is free
 fits-apart : (look : Look) (n m : ℕ) → is_some (look m) ≡ true → look n ≡ None → nat_eq n m ≡ false

@@ -12,14 +12,14 @@ use Rattle.otel_model_stream.specs.Sets.{AttributeSet, none_set, over_set}
 use Rattle.otel_model_stream.specs.Entries.{Entry, Table, new_entry, is_of, has, number_counted, entries_with_place, entry_for, place, at_entry, write}
 use Rattle.otel_model_stream.specs.Maps.{MapState, with_place, measured_map, measured_list, bound_to}
 use Rattle.otel_aggregate.specs.value_map.Keyed.{Slotted, IsNew}
+use Rattle.otel_aggregate.specs.value_map.Slots.{Kept, entry_of, new_kept}
 use Rattle.otel_aggregate.specs.value_map.Numbers.{Numbers, number_of, KeepNumbers, is_placed, set_named, handles_in, handles_at}
-use Rattle.otel_aggregate.specs.value_map.Contents.{MapContents, IsOverflowAt, IsPlan, IsPlanAt, IsSound, IsReady, pending_in, is_new, is_pending, target_of}
+use Rattle.otel_aggregate.specs.value_map.Contents.{MapContents, IsOverflowAt, IsPlan, IsPlanAt, IsSound, IsReady, pending_in, target_of}
 use Rattle.otel_aggregate.specs.declared.value_map.pending.Pending.{Pending}
 use Rattle.otel_aggregate.specs.declared.value_map.pending.Pending.TheVariants.{Nothing, At, New}
 use Rattle.otel_aggregate.proofs.value_map.CanonicalSets.{some-canon}
 use Rattle.otel_aggregate.proofs.value_map.KeyedLemmas.{same_set, set_eq-self, set_eq-flip}
 use Rattle.otel_aggregate.proofs.value_map.AddLemmas.{lookup-pushed, numbers-pushed}
-use Rattle.otel_aggregate.proofs.value_map.TableLemmas.{counted_cons}
 
 -- what a place does: the entries, and which of them the set uses
 pub record Placing (limit : ℕ) (empty : Fold) (s : AttributeSet) (entries after : List Entry) (used : AttributeSet) : Type 0 where
@@ -65,7 +65,7 @@ module _ (limit : ℕ) (empty : Fold) (s : AttributeSet) (entries : List Entry) 
             sym (same_set over_set s (flat (set_eq over_set s) one))
 
 -- what a placing says of the whole state
-pub as_state : (st : MapState) (s : AttributeSet) (t : Table) (goal : AttributeSet) → t.none ≡ st.table.none → Placing st.limit st.empty s st.table.entries t.entries goal → record st { table = t } ≡ with_place s st
+as_state : (st : MapState) (s : AttributeSet) (t : Table) (goal : AttributeSet) → t.none ≡ st.table.none → Placing st.limit st.empty s st.table.entries t.entries goal → record st { table = t } ≡ with_place s st
 as_state st s t goal none p = λ i. record st { table = record { none = none i; entries = p.state i } }
 
 -- a record of a set that uses an entry that is there
@@ -107,21 +107,9 @@ target-measured (Some n) l v h some over = by (has (canon l) h.state.table.entri
         ∙ measured-by m over_set v over_set (place-there m.limit m.empty over_set m.table.entries over.1)
         ∙ sym (measured-by m (canon l) v over_set (place-over m.limit m.empty (canon l) m.table.entries (some-canon l some) e over.0 over.1))
 
--- an entry more counts one more
-pub counted-push : (entries : List Entry) (e : Entry) → number_counted (entries ++ e ∷ []) ≡ cond e.counted 1 0 + number_counted entries
-counted-push [] e = counted_cons e []
-counted-push (r ∷ rs) e =
-    let one = counted_cons r (rs ++ e ∷ []) in
-    let two = counted_cons r rs in
-    let rest = counted-push rs e in
-    omega (arith, one, two, rest)
-
 -- ======== what is prepared ========
 pub sound-nothing : (t : Slotted) (few room : Bool) (p : Pending) → p ≡ Nothing → IsSound t few room p
 sound-nothing t few room p is = subst (IsSound t few room) (sym is) tt
-
-pub sound-at : (t : Slotted) (few room : Bool) (p : Pending) (n : ℕ) → p ≡ At n → IsSound t few room (At n) → IsSound t few room p
-sound-at t few room p n is found = subst (IsSound t few room) (sym is) found
 
 -- and the one that is new
 pub new-prepared : (t : Slotted) (few room : Bool) (p : Pending) (set : AttributeSet) (list : Option (List KeyValue)) → IsSound t few room p → New set list ≡ p → IsReady t few room set list
@@ -131,10 +119,10 @@ pub new-set : (ns : Numbers) (p : Pending) (set s : AttributeSet) (list : Option
 new-set ns p set s list is e = let both : Some set ≡ Some s = ap (pending_in ns) is ∙ e in cc
 
 -- which is the set that is prepared, if that has no entry
-pub new-there : (t : Slotted) (few room : Bool) (p : Pending) (s : AttributeSet) → IsSound t few room p → is_new p ≡ is_pending p → pending_in t.numbers p ≡ Some s → (set_eq s none_set ≡ false) × (has s t.table.entries ≡ false)
-new-there t few room Nothing s sound is e = absurd (cc)
-new-there t few room (At n) s sound is e = absurd (cc)
-new-there t few room (New set list) s sound is e =
+pub new-there : (t : Slotted) (few room : Bool) (p : Pending) (s : AttributeSet) → IsSound t few room p → ((n : ℕ) → p ≡ At n → ⊥) → pending_in t.numbers p ≡ Some s → (set_eq s none_set ≡ false) × (has s t.table.entries ≡ false)
+new-there t few room Nothing s sound other e = absurd (cc)
+new-there t few room (At n) s sound other e = absurd (other n refl)
+new-there t few room (New set list) s sound other e =
     let same : set ≡ s = cc in
     (subst (λ x. set_eq x none_set ≡ false) same sound.new.some, subst (λ x. has x t.table.entries ≡ false) same sound.absent)
 
@@ -143,12 +131,30 @@ pub made_key : (o : Option AttributeSet) (key : AttributeSet) → IfSome o (λ k
 made_key o key h e = let P : Option AttributeSet → Type 0 = λ p. IfSome p (λ k. k ≡ over_set) in subst P e h
 
 -- the numbers with one more
-pub numbers-added : (old new : Numbers) (s : AttributeSet) (n : ℕ) → new.none ≡ old.none → new.sets ≡ old.sets ++ (s, n) ∷ [] → IsNew old.sets s → KeepNumbers old new × (number_of s new ≡ Some n)
+numbers-added : (old new : Numbers) (s : AttributeSet) (n : ℕ) → new.none ≡ old.none → new.sets ≡ old.sets ++ (s, n) ∷ [] → IsNew old.sets s → KeepNumbers old new × (number_of s new ≡ Some n)
 numbers-added old new s n none sets fresh_set =
     let is : new ≡ record { none = old.none; sets = old.sets ++ (s, n) ∷ [] } = λ i. record { none = none i; sets = sets i } in (
       subst (KeepNumbers old) (sym is) (numbers-pushed old.none old.sets (s, n)),
       ap (number_of s) is ∙ ap (λ b. cond b (Some old.none) (lookup (set_eq s) (old.sets ++ (s, n) ∷ []))) fresh_set.some ∙ lookup-pushed s old.sets n fresh_set.absent,
     )
+
+-- a new entry of the set `used` is the one that the set uses
+pub record Placed (limit : ℕ) (empty : Fold) (t after : Slotted) (n : ℕ) (s : AttributeSet) : Type 0 where
+  pub state : record { limit = limit; empty = empty; table = after.table } ≡ with_place s (record { limit = limit; empty = empty; table = t.table })
+  pub number : number_of (entry_for s after.table.entries) after.numbers ≡ Some n
+  pub numbers : KeepNumbers t.numbers after.numbers
+
+pub placed : (limit : ℕ) (empty : Fold) (t after : Slotted) (n : ℕ) (s used : AttributeSet) (counted lasting : Bool) (slot : Kept) → Placing limit empty s t.table.entries (t.table.entries ++ new_entry empty used counted ∷ []) used → IsNew t.numbers.sets used
+    → slot ≡ new_kept empty counted lasting → after.table ≡ record t.table { entries = t.table.entries ++ entry_of used (Some slot) ∷ [] } → after.numbers.none ≡ t.numbers.none → after.numbers.sets ≡ t.numbers.sets ++ (used, n) ∷ [] → Placed limit empty t after n s
+placed limit empty t after n s used counted lasting slot place new made table none sets =
+    let entries : after.table.entries ≡ t.table.entries ++ new_entry empty used counted ∷ [] = ap (λ (x : Table). x.entries) table ∙ ap (λ (k : Kept). t.table.entries ++ entry_of used (Some k) ∷ []) made in
+    let p : Placing limit empty s t.table.entries after.table.entries used = subst (λ (es : List Entry). Placing limit empty s t.table.entries es used) (sym entries) place in
+    let added = numbers-added t.numbers after.numbers used n none sets new in
+    record {
+      state = as_state (record { limit = limit; empty = empty; table = t.table }) s after.table used (ap (λ (x : Table). x.none) table) p;
+      number = ap (λ (x : AttributeSet). number_of x after.numbers) p.goal ∙ added.1;
+      numbers = added.0;
+    }
 
 -- nothing is prepared any more
 pub nothing-left : (ns : Numbers) (p : Pending) → pending_in ns p ≡ None → p ≡ Nothing
@@ -193,11 +199,11 @@ handles-away : (x : AttributeSet) (es : List Entry) → has x es ≡ false → h
 handles-away x [] e = refl
 handles-away x (r ∷ rs) e = let q = or_parts (is_of x r) (has x rs) e in (λ i. cond (q.0 i) r.handles (handles_in x rs)) ∙ handles-away x rs q.1
 
-pub no_handles : (x : AttributeSet) (t : Table) → t.none.set ≡ none_set → set_eq x none_set ≡ false → has x t.entries ≡ false → handles_at x t ≡ 0
-no_handles x t is some away =
-    ap (λ k. cond (set_eq k x) t.none.handles (handles_in x t.entries)) is
-    ∙ (ap (λ b. cond b t.none.handles (handles_in x t.entries)) (set_eq-flip none_set x ∙ some) ∙ handles-away x t.entries away)
-
--- the entry that a bind uses
-pub bound-by : (m : MapState) (s : AttributeSet) (after : List Entry) (used : AttributeSet) → Placing m.limit m.empty s m.table.entries after used → bound_to s m ≡ used
-bound-by m s after used p = ap (entry_for s) (sym p.state) ∙ p.goal
+-- nor has the entry that a bind uses, where that is still to be made
+pub unheld : (m : MapState) (s : AttributeSet) (after : List Entry) (used : AttributeSet) → Placing m.limit m.empty s m.table.entries after used → m.table.none.set ≡ none_set → set_eq used none_set ≡ false → has used m.table.entries ≡ false → 0 ≡ handles_at (bound_to s m) m.table
+unheld m s after used p is some away =
+    let t : Table = m.table in
+    sym (ap (λ (es : List Entry). handles_at (entry_for s es) t) (sym p.state) ∙ ap (λ (x : AttributeSet). handles_at x t) p.goal
+    ∙ ap (λ (k : AttributeSet). cond (set_eq k used) t.none.handles (handles_in used t.entries)) is
+    ∙ ap (λ b. cond b t.none.handles (handles_in used t.entries)) (set_eq-flip none_set used ∙ some)
+    ∙ handles-away used t.entries away)

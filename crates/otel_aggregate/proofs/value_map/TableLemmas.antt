@@ -2,7 +2,7 @@
 use Rattle.std.proofs.Common.{suc, ◌+◌, ◌≤◌, ◌≡◌, ◌||◌, Bool, true, false, cond, List, [], ◌∷◌, Option, Some, None, is_some, map, filter, length, refl, arith}
 use Rattle.std.specs.Option.{option_map}
 use Rattle.otel_model_stream.specs.Entries.{Entry, Point, point_of_entry, number_counted}
-use Rattle.otel_aggregate.specs.value_map.Slots.{Look, Keyed, entry_at, number_updated}
+use Rattle.otel_aggregate.specs.value_map.Slots.{Look, Keyed, entry_at}
 
 pub is_some-map : {X Y : Type 0} (f : X → Y) (o : Option X) → is_some (option_map f o) ≡ is_some o
 is_some-map f None = refl
@@ -23,24 +23,6 @@ counted_few look [] = omega arith
 counted_few look (e ∷ es) = by (entry_at look e).counted (counted_cons (entry_at look e) (map (entry_at look) es)) (counted_few look es)
   where
     by : (b : Bool) → number_counted (map (entry_at look) (e ∷ es)) ≡ cond b 1 0 + number_counted (map (entry_at look) es) → number_counted (map (entry_at look) es) ≤ length es → number_counted (map (entry_at look) (e ∷ es)) ≤ suc (length es)
-    by true q h = omega arith
-    by false q h = omega arith
-
-pub updated_cons : (e : Entry) (es : List Entry) → number_updated (e ∷ es) ≡ cond e.updated 1 0 + number_updated es
-updated_cons e es = by e.updated
-  where
-    us : List Entry
-    us = filter (λ (e : Entry). e.updated) es
-
-    by : (b : Bool) → length (cond b (e ∷ us) us) ≡ cond b 1 0 + length us
-    by true = omega arith
-    by false = omega arith
-
-pub updated_few : (look : Look) (es : List Keyed) → number_updated (map (entry_at look) es) ≤ length es
-updated_few look [] = omega arith
-updated_few look (e ∷ es) = by (entry_at look e).updated (updated_cons (entry_at look e) (map (entry_at look) es)) (updated_few look es)
-  where
-    by : (b : Bool) → number_updated (map (entry_at look) (e ∷ es)) ≡ cond b 1 0 + number_updated (map (entry_at look) es) → number_updated (map (entry_at look) es) ≤ length es → number_updated (map (entry_at look) (e ∷ es)) ≤ suc (length es)
     by true q h = omega arith
     by false q h = omega arith
 

@@ -58,25 +58,6 @@ IsSound t few room Nothing = Unit {0}
 IsSound t few room (At n) = (number_of (set_named n t.numbers) t.numbers ≡ Some n) × (is_placed (set_named n t.numbers) t.table.entries ≡ true)
 IsSound t few room (New s list) = IsReady t few room s list
 
--- whether it is for a set that has no entry
-abbrev pub is_new : Pending → Bool
-is_new Nothing = false
-is_new (At n) = false
-is_new (New s list) = true
-
--- whether a record or a bind is prepared
-abbrev pub is_pending : Pending → Bool
-is_pending Nothing = false
-is_pending (At n) = true
-is_pending (New s list) = true
-
--- the prepared record or bind, from what is kept of it: the number of an entry, or else a set that has no entry, and
--- perhaps a list that is to lead to its entry too
-abbrev pub prepared : Option ℕ → Option (AttributeSet × Option (List KeyValue)) → Pending
-prepared (Some n) added = At n
-prepared None (Some p) = New p.0 p.1
-prepared None None = Nothing
-
 -- whether a list, as given, leads to an entry
 abbrev pub leads : List KeyValue → Slotted → Bool
 leads l t = set_eq l none_set || (is_member set_eq (keys_of t.aliases) l || has l t.table.entries)

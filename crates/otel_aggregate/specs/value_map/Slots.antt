@@ -1,8 +1,6 @@
 -- What is kept in slots, as the model's entries.
-use Rattle.std.specs.Prelude.{◌≡◌, ℕ, ◌+◌, ◌-◌, nat_eq, nat_lt, ◌||◌, Bool, true, false, cond, List, map, filter, length, Option, Some, None}
+use Rattle.std.specs.Prelude.{◌≡◌, ℕ, ◌+◌, ◌-◌, nat_eq, nat_lt, ◌||◌, Bool, true, false, cond, List, map, Option, Some, None}
 use Rattle.std.specs.Option.{option_map}
-use Rattle.std.specs.Map.{values_of}
-use Rattle.std.specs.Set.{is_member}
 use Rattle.slab.specs.Slab.{Slab, get}
 use Rattle.otel_model_stream.specs.Sets.{AttributeSet, none_set}
 use Rattle.otel_model_stream.specs.Folds.{Fold, Total, Sample, record_fold, clear_fold}
@@ -70,10 +68,6 @@ left_of (Some k) = cond (remains k) (Some (forgotten k)) None
 abbrev pub at_slot : ℕ → (Kept → Kept) → Look → Look
 at_slot n f look m = cond (nat_eq n m) (option_map f (look m)) (look m)
 
--- the slots, with what f makes of the one of this number
-abbrev pub changed_at : (Option Kept → Option Kept) → ℕ → Look → Look
-changed_at f n look m = cond (nat_eq n m) (f (look m)) (look m)
-
 -- the slots, with this in the one of this number
 abbrev pub with_slot : ℕ → Kept → Look → Look
 with_slot n k look m = cond (nat_eq n m) (Some k) (look m)
@@ -91,16 +85,8 @@ entry_of s (Some k) = record { set = s; counted = k.counted; updated = k.updated
 abbrev pub Keyed : Type 0
 Keyed = AttributeSet × ℕ
 
--- the slots, with what f makes of each of those that these sets lead to
-abbrev pub changed_each : (Option Kept → Option Kept) → List Keyed → Look → Look
-changed_each f es look n = cond (is_member nat_eq (values_of es) n) (f (look n)) (look n)
-
 abbrev pub entry_at : Look → Keyed → Entry
 entry_at look e = entry_of e.0 (look e.1)
-
--- how many entries were updated
-abbrev pub number_updated : List Entry → ℕ
-number_updated es = length (filter (λ (e : Entry). e.updated) es)
 
 -- the table of these slots: the entry of the empty set, and those of the sets, by their slots' numbers
 abbrev pub table_at : Look → ℕ → List Keyed → Table

@@ -27,7 +27,7 @@ type Numbered = IndexMap<HashedKey, usize, KeyHashBuilder>;
 /// The numbers of slots, by set and by list as given.
 pub struct KeyTable {
     /// Hashes the sets and lists.
-    hasher: SetHashBuilder,
+    pub hasher: SetHashBuilder,
     /// By canonical set, so that a list that is canonical as given is found without a copy.
     sets: Numbered,
     /// By other lists, as given, that admitted a set: those that are not its canonical form.
@@ -116,11 +116,6 @@ impl KeyTable {
         }
     }
 
-    /// What sets and lists are hashed with.
-    pub fn hasher(&self) -> SetHashBuilder {
-        self.hasher
-    }
-
     /// The number that a set leads to.
     pub fn find_set(&self, set: &HashedSet) -> Option<usize>
         ensures { result ≡ lookup (set_eq set.now.key) self.now.sets }
@@ -154,13 +149,6 @@ impl KeyTable {
         ensures few { length self.now.sets < 2 ^ 63 }
     {
         self.sets.iter()
-    }
-
-    /// How many sets there are.
-    pub fn count_sets(&self) -> usize
-        ensures { result ≡ length self.now.sets }
-    {
-        self.sets.len()
     }
 
     /// Makes room for one more set and one more list.

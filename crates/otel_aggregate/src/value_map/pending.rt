@@ -8,22 +8,20 @@ ghost use Rattle.otel_model_stream.specs.Entries.{has};
 ghost use Rattle.otel_model_stream.specs.Sets.{allowed_part, over_set};
 ghost use Rattle.otel_aggregate.specs.value_map.Numbers.{is_placed};
 ghost use Rattle.otel_aggregate.specs.value_map.Slots.{kept_of, new_kept};
-ghost use Rattle.otel_aggregate.specs.value_map.Contents.{IsOverflow, IsPlanAt, IsPlanFor, target_of, is_new, is_pending, leads};
-ghost use Rattle.otel_aggregate.specs.declared.value_map.pending.Pending.TheVariants.{Nothing, At};
+ghost use Rattle.otel_aggregate.specs.value_map.Contents.{IsOverflow, IsPlanAt, IsPlanFor, target_of, leads};
+ghost use Rattle.otel_aggregate.specs.declared.value_map.pending.Pending.TheVariants.{Nothing};
 
 use crate::aggregators::aggregator::Aggregator;
 use crate::sets::allowed_keys::AllowedKeys;
 use crate::sets::forms::is_form_of;
 use crate::sets::references::{few_references, many_references};
 use crate::value_map::hashed_key::{HashedSet, OwnedSet};
-use crate::value_map::hashing::SetHashBuilder;
 use crate::value_map::sets::overflow_set;
 use crate::value_map::slots::Slot;
 use crate::value_map::table::Table;
 use otel_common::attributes::KeyValue;
 use otel_common::faults::Fault;
 use std::alloc::Global;
-use std::marker::Model;
 
 /// A prepared record or bind, if there is one.
 #[derive(Drop)]
@@ -37,140 +35,25 @@ pub enum Pending {
 }
 
 impl Pending {
-    /// Whether it is for a set that has no entry.
-    pub fn is_new(&self) -> bool
-        ensures { result ≡ is_new self.now }
-    {
-        match self {
-            Pending::Nothing => false,
-            Pending::At(_) => false,
-            Pending::New(_, _) => true,
-        }
-    }
-}
-
-/// A map's prepared record or bind, kept so that one for a set that has an entry is put and taken by its number alone.
-pub struct Prepared {
-    number: Option<usize>,
-    added: Option<(OwnedSet, Option<OwnedSet>)>,
-}
-
-impl Drop for Prepared {
-    /// A function of its own, so that no proof about who lets one go looks into it.
-    fn drop(self) {
-        let Prepared {
-            number: _,
-            added: _added,
-        } = self;
-    }
-}
-
-impl Model for Prepared {
-    ghost use Rattle.std.specs.Prelude.{◌≡◌, is_some, IsTrue, false};
-    ghost use Rattle.otel_aggregate.specs.value_map.Contents.{prepared};
-    ghost use Rattle.otel_aggregate.specs.declared.value_map.pending.Pending.{Pending};
-
-    ghost Value = { Pending };
-
-    ghost view = { λ p. prepared p.number p.added };
-
-    ghost invariant = { λ p. IsTrue (is_some p.number) → is_some p.added ≡ false };
-}
-
-impl Prepared {
-    /// Makes one with nothing prepared.
-    pub fn nothing() -> Prepared
-        ensures { result ≡ Nothing }
-    {
-        Prepared {
-            number: None,
-            added: None,
-        }
-    }
-
-    /// Whether a record or a bind is prepared.
-    #[inline(always)]
-    pub fn is_some(&self) -> bool
-        ensures { result ≡ is_pending self.now }
-    {
-        self.number.is_some() || self.added.is_some()
-    }
-
-    /// The number of the entry that a record or bind is prepared for, if that is one for a set that has an entry.
-    #[inline(always)]
-    pub fn number(&self) -> Option<usize>
-        ensures at { IfSome result (λ n. self.now ≡ At n) }
-        ensures other { IfNone result (is_new self.now ≡ is_pending self.now) }
-    {
-        self.number
-    }
-
-    /// Takes out the number of the entry that a record or bind is prepared for, if that is one for a set that has an
-    /// entry.
-    #[inline(always)]
-    pub fn take_number(&mut self) -> Option<usize>
-        ensures at { IfSome result (λ n. self.old ≡ At n) }
-        ensures left { IfSome result (λ _. self.new ≡ Nothing) }
-        ensures other { IfNone result (self.new ≡ self.old) }
-    {
-        self.number.take()
-    }
-
     /// Gives up what is prepared, if there is anything.
     #[inline(always)]
     pub fn give_up(&mut self)
         ensures { self.new ≡ Nothing }
     {
-        self.number = None;
-        if self.added.is_some() {
-            give_up_added(&mut self.added);
+        if matches!(self, Pending::New(_, _)) {
+            self.give_up_new();
+        } else {
+            *self = Pending::Nothing;
         }
     }
 
-    /// Replaces what is prepared with a record or bind for the set whose entry has this number.
-    #[inline(always)]
-    pub fn put_at(&mut self, number: usize)
-        ensures { self.new ≡ At number }
-    {
-        self.give_up();
-        self.number = Some(number);
-    }
-
-    /// Replaces what is prepared with this.
+    /// Does what `give_up` does, out of line, as most records are for sets that have an entry.
     #[inline(never)]
-    pub fn put(&mut self, pending: Pending)
-        ensures { self.new ≡ pending }
+    fn give_up_new(&mut self)
+        ensures { self.new ≡ Nothing }
     {
-        self.give_up();
-        match pending {
-            Pending::Nothing => {}
-            Pending::At(number) => self.number = Some(number),
-            Pending::New(set, list) => self.added = Some((set, list)),
-        }
+        *self = Pending::Nothing;
     }
-
-    /// Takes out what is prepared and leaves nothing.
-    #[inline(always)]
-    pub fn take(&mut self) -> Pending
-        ensures taken { result ≡ self.old }
-        ensures left { self.new ≡ Nothing }
-    {
-        if let Some(number) = self.number.take() {
-            return Pending::At(number);
-        }
-        match self.added.take() {
-            Some((set, list)) => Pending::New(set, list),
-            None => Pending::Nothing,
-        }
-    }
-}
-
-/// Gives up a set that is to be added. Out of line, as most records are for sets that have an entry.
-#[inline(never)]
-fn give_up_added(added: &mut Option<(OwnedSet, Option<OwnedSet>)>)
-    ensures { added.new ≡ None }
-{
-    *added = None;
 }
 
 /// The number of the entry to which a list, as given, leads. Takes no memory.
@@ -286,38 +169,6 @@ pub fn plan<A: Aggregator>(
     }
 }
 
-/// Makes an aggregator in advance, unless there is one already.
-fn make_unused<A: Aggregator>(
-    unused: &mut Option<A>,
-    alloc: Global,
-    config: &A::InitConfig,
-) -> Result<(), Fault>
-    requires { IfSome unused.old (λ made. A.meaning made ≡ A.empty config.now) }
-    ensures empty { IfSome unused.new (λ made. A.meaning made ≡ A.empty config.now) }
-    ensures made { OnOk result (is_some unused.new ≡ true) }
-    ensures only_memory { IsOkUnless result Fault.OutOfMemory }
-{
-    if unused.is_some() {
-        return Ok(());
-    }
-    *unused = Some(A::create(alloc, config)?);
-    Ok(())
-}
-
-/// Makes the set of the overflow entry in advance, unless there is one already.
-fn make_key(key: &mut Option<OwnedSet>, hasher: SetHashBuilder, alloc: Global) -> Result<(), Fault>
-    requires { IfSome key.old (λ made. made ≡ over_set) }
-    ensures over { IfSome key.new (λ made. made ≡ over_set) }
-    ensures made { OnOk result (is_some key.new ≡ true) }
-    ensures only_memory { IsOkUnless result Fault.OutOfMemory }
-{
-    if key.is_some() {
-        return Ok(());
-    }
-    *key = Some(OwnedSet::new(hasher, overflow_set(alloc)?));
-    Ok(())
-}
-
 /// Makes in advance what a new entry takes: room in the table, an aggregator, and the set of the overflow entry.
 pub fn make_ready<A: Aggregator>(
     table: &mut Table<A>,
@@ -337,8 +188,12 @@ pub fn make_ready<A: Aggregator>(
     ensures only_memory { IsOkUnless result Fault.OutOfMemory }
 {
     table.make_room()?;
-    make_unused(unused, alloc, config)?;
-    make_key(key, table.hasher(), alloc)?;
+    if unused.is_none() {
+        *unused = Some(A::create(alloc, config)?);
+    }
+    if key.is_none() {
+        *key = Some(OwnedSet::new(table.hasher(), overflow_set(alloc)?));
+    }
     Ok(())
 }
 

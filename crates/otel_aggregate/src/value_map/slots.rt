@@ -1,8 +1,9 @@
 //! What is kept of the records of each set, in slots.
 
-ghost use Rattle.std.specs.Prelude.{◌≡◌, ◌<◌, ◌-◌, ◌^◌, false, IfSome, None, Some, is_some};
+ghost use Rattle.std.specs.Prelude.{◌≡◌, ◌<◌, ◌-◌, ◌^◌, cond, nat_eq, false, IfSome, None, Some};
+ghost use Rattle.std.specs.Option.{option_map};
 ghost use Rattle.slab.specs.Slab.{get, HasRoomFor};
-ghost use Rattle.otel_aggregate.specs.value_map.Slots.{SameLook, look_in, kept_of, new_kept, with_slot, at_slot, changed_at, written, held, released, forgotten, left_of};
+ghost use Rattle.otel_aggregate.specs.value_map.Slots.{SameLook, look_in, kept_of, with_slot, at_slot, written, held, released, forgotten, left_of};
 
 use crate::aggregators::aggregator::Aggregator;
 use slab::Slab;
@@ -33,7 +34,7 @@ impl<A: Drop> Drop for Slot<A> {
     }
 }
 
-impl<A> Slot<A> {
+impl<A: Aggregator> Slot<A> {
     /// Makes a slot without records.
     pub fn new(aggregator: A, counted: bool, lasting: bool) -> Slot<A>
         ensures { result ≡ record { aggregator = aggregator; counted = counted; updated = false; lasting = lasting; handles = 0 } }
@@ -45,6 +46,26 @@ impl<A> Slot<A> {
             lasting,
             handles: 0,
         }
+    }
+
+    /// Forgets the records.
+    pub fn forget(&mut self)
+        ensures { kept_of A.meaning self.new ≡ forgotten (kept_of A.meaning self.old) }
+    {
+        self.updated = false;
+        self.aggregator.reset();
+    }
+
+    /// Forgets the records if evictions spare the slot, and returns whether they do: it was updated since it was made or
+    /// last reset, a live handle holds it, or it lasts.
+    pub fn settle(&mut self) -> bool
+        ensures { cond result (Some (kept_of A.meaning self.new)) None ≡ left_of (Some (kept_of A.meaning self.old)) }
+    {
+        if self.updated || self.handles > 0 || self.lasting {
+            self.forget();
+            return true;
+        }
+        false
     }
 }
 
@@ -87,41 +108,22 @@ pub fn release<A: Aggregator>(slots: &mut Slab<Slot<A>>, number: usize)
     }
 }
 
-/// Forgets the records in the slot with this number.
-pub fn forget<A: Aggregator>(slots: &mut Slab<Slot<A>>, number: usize)
-    ensures look { SameLook (look_in A.meaning slots.new) (at_slot number forgotten (look_in A.meaning slots.old)) }
+/// Forgets the records in the slots that evictions spare, and frees the others.
+pub fn settle<A: Aggregator>(slots: &mut Slab<Slot<A>>)
+    ensures look { SameLook (look_in A.meaning slots.new) (λ n. left_of (look_in A.meaning slots.old n)) }
 {
-    if let Some(slot) = slots.get_mut(number) {
-        slot.updated = false;
-        slot.aggregator.reset();
-    }
+    slots.retain(|_number, slot| slot.settle());
 }
 
-/// Frees the slot with this number.
-pub fn free<A: Aggregator>(slots: &mut Slab<Slot<A>>, number: usize)
-    ensures look { SameLook (look_in A.meaning slots.new) (changed_at (λ _. None) number (look_in A.meaning slots.old)) }
+/// Forgets the records in the slot with this number, and frees all others.
+pub fn clear_others<A: Aggregator>(slots: &mut Slab<Slot<A>>, number: usize)
+    ensures look { SameLook (look_in A.meaning slots.new) (λ n. cond (nat_eq n number) (option_map forgotten (look_in A.meaning slots.old n)) None) }
 {
-    slots.try_remove(number);
-}
-
-/// Whether evictions spare the slot with this number: it was updated since it was made or last reset, a live handle holds
-/// it, or it lasts.
-fn is_spared<A: Aggregator>(slots: &Slab<Slot<A>>, number: usize) -> bool
-    ensures { result ≡ is_some (left_of (look_in A.meaning slots.now number)) }
-{
-    match slots.get(number) {
-        None => false,
-        Some(slot) => slot.updated || slot.handles > 0 || slot.lasting,
-    }
-}
-
-/// Forgets the records in the slot with this number if evictions spare it, and otherwise frees it.
-pub fn settle<A: Aggregator>(slots: &mut Slab<Slot<A>>, number: usize)
-    ensures look { SameLook (look_in A.meaning slots.new) (changed_at left_of number (look_in A.meaning slots.old)) }
-{
-    if is_spared(slots, number) {
-        forget(slots, number);
-    } else {
-        free(slots, number);
-    }
+    slots.retain(|other, slot| {
+        if other != number {
+            return false;
+        }
+        slot.forget();
+        true
+    });
 }

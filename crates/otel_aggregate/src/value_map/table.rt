@@ -11,11 +11,11 @@ ghost use Rattle.otel_model_stream.specs.Folds.{wrap};
 ghost use Rattle.otel_model_stream.specs.Sets.{AttributeSet, allowed_part, none_set, over_set};
 ghost use Rattle.otel_model_stream.specs.Observed.{fold_in};
 ghost use Rattle.otel_model_stream.specs.Totals.{points_total};
-ghost use Rattle.otel_model_stream.specs.Entries.{point_of_entry, new_entry, has, write, take_handle, drop_handle, at_entry, new_table, evicted_table, drained_table, points, number_counted};
+ghost use Rattle.otel_model_stream.specs.Entries.{point_of_entry, new_entry, has, write, take_handle, drop_handle, at_entry, evicted_table, drained_table, points, number_counted};
 ghost use Rattle.std.specs.List.{AllByRecursion, IsDistinct};
 ghost use Rattle.otel_aggregate.specs.value_map.Keyed.{Fits, found, IsNew, IsSpelling, with_spelling};
 ghost use Rattle.otel_aggregate.specs.value_map.Numbers.{number_of, handles_at, AreNamed, AreNumbered, KeepLeft, IsNumberOf, is_number};
-ghost use Rattle.otel_aggregate.specs.value_map.Slots.{HasForm, Look, SameLook, look_in, kept_of, changed_each, left_of, entry_of, entry_at, number_updated};
+ghost use Rattle.otel_aggregate.specs.value_map.Slots.{HasForm, Look, look_in, kept_of, entry_of, entry_at};
 
 use crate::aggregators::aggregator::Aggregator;
 use crate::sets::allowed_keys::AllowedKeys;
@@ -24,7 +24,7 @@ use crate::value_map::hashed_key::{HashedSet, OwnedSet};
 use crate::value_map::hashing::SetHashBuilder;
 use crate::value_map::key_table::KeyTable;
 use crate::value_map::maker::PointMaker;
-use crate::value_map::slots::{Slot, fill, forget, free, hold, release, settle, touch};
+use crate::value_map::slots::{Slot, clear_others, fill, hold, release, settle, touch};
 use otel_common::attributes::KeyValue;
 use otel_common::faults::Fault;
 use otel_common::lists::SharedItems;
@@ -66,42 +66,14 @@ impl<A: Aggregator> Drop for Table<A> {
     }
 }
 
-/// Makes room for one more slot and a key of each kind.
-fn reserve_one<A: Aggregator>(
-    slots: &mut Slab<Slot<A>>,
-    keys: &mut KeyTable,
-) -> Result<(), AllocError>
-    ensures look { look_in A.meaning slots.new ≡ look_in A.meaning slots.old }
-    ensures sets { keys.new.sets ≡ keys.old.sets }
-    ensures aliases { keys.new.aliases ≡ keys.old.aliases }
-    ensures room { OnOk result ((nat_le (slab_len slots.new + 1) slots.new.capacity && keys.new.room) ≡ true) }
-{
-    slots.reserve(1)?;
-    keys.reserve_one()
-}
-
-/// Whether the slot with this number was updated.
-fn is_updated<A: Aggregator>(slots: &Slab<Slot<A>>, number: usize) -> bool
-    ensures { (s : AttributeSet) → result ≡ (entry_at (look_in A.meaning slots.now) (s, number)).updated }
-{
-    match slots.get(number) {
-        None => false,
-        Some(slot) => slot.updated,
+/// How many points the sets have: all, or those that were updated.
+fn count_shown<A: Aggregator>(slots: &Slab<Slot<A>>, keys: &KeyTable, every: bool) -> usize {
+    let sets = keys.sets();
+    if every {
+        return sets.len();
     }
-}
-
-/// How many of the sets were updated.
-#[tactic(auto, using(crate::proofs::value_map::TableLemmas::updated_cons, crate::proofs::value_map::TableLemmas::updated_few))]
-fn count_updated<A: Aggregator>(slots: &Slab<Slot<A>>, keys: &KeyTable) -> usize
-    ensures { result ≡ number_updated (map (entry_at (look_in A.meaning slots.now)) keys.now.sets) }
-{
-    let mut count = 0;
-    for (_, number) in keys.sets() {
-        if is_updated(slots, *number) {
-            count += 1;
-        }
-    }
-    count
+    sets.filter(|(_, number)| slots.get(**number).is_some_and(|slot| slot.updated))
+        .count()
 }
 
 /// The point of the empty set, whose slot has this number, if that slot was updated, in a list with room for this many
@@ -206,26 +178,6 @@ fn count_counted<A: Aggregator>(slots: &Slab<Slot<A>>, keys: &KeyTable) -> usize
     count
 }
 
-/// Forgets the records in the slots of the sets, or frees those that evictions don't spare.
-fn settle_each<A: Aggregator>(slots: &mut Slab<Slot<A>>, keys: &KeyTable)
-    requires apart { IsDistinct nat_eq (values_of keys.now.sets) }
-    ensures look { SameLook (look_in A.meaning slots.new) (changed_each left_of keys.now.sets (look_in A.meaning slots.old)) }
-{
-    for (_, number) in keys.sets() {
-        settle(slots, *number);
-    }
-}
-
-/// Frees the slots of the sets.
-fn free_each<A: Aggregator>(slots: &mut Slab<Slot<A>>, keys: &KeyTable)
-    requires apart { IsDistinct nat_eq (values_of keys.now.sets) }
-    ensures look { SameLook (look_in A.meaning slots.new) (changed_each (λ _. None) keys.now.sets (look_in A.meaning slots.old)) }
-{
-    for (_, number) in keys.sets() {
-        free(slots, *number);
-    }
-}
-
 /// The aggregator in the slot with this number, if the slot was updated.
 fn shown_in<A: Aggregator>(slots: &Slab<Slot<A>>, number: usize) -> Option<&A>
     ensures { (s : AttributeSet) → option_map (λ found. A.meaning found.now) result ≡ cond (entry_at (look_in A.meaning slots.now) (s, number)).updated (Some (entry_at (look_in A.meaning slots.now) (s, number)).fold) None }
@@ -274,21 +226,9 @@ fn form_in(keys: &KeyTable, allow: Option<&AllowedKeys>, list: &[KeyValue]) -> O
 }
 
 impl<A: Aggregator> Table<A> {
-    /// Makes a table with no entry but that of the empty set, whose aggregator has no records. Takes memory for that
-    /// one slot.
+    /// Makes a table with no entry but that of the empty set, in this slot. Takes memory for that one slot.
     #[inline(always)]
-    pub fn new(alloc: Global, hasher: SetHashBuilder, aggregator: A) -> Result<Table<A>, Fault>
-        ensures table { IfOk result (λ made. made.table ≡ new_table (A.meaning aggregator)) }
-        ensures sets { IfOk result (λ made. made.numbers.sets ≡ []) }
-        ensures aliases { IfOk result (λ made. made.aliases ≡ []) }
-        ensures only_memory { IsOkUnless result Fault.OutOfMemory }
-    {
-        Table::with_none(alloc, hasher, Slot::new(aggregator, false, true))
-    }
-
-    /// Makes a table with no entry but that of the empty set, in this slot.
-    #[inline(always)]
-    fn with_none(alloc: Global, hasher: SetHashBuilder, slot: Slot<A>) -> Result<Table<A>, Fault>
+    pub fn new(alloc: Global, hasher: SetHashBuilder, slot: Slot<A>) -> Result<Table<A>, Fault>
         requires lasting { slot.lasting ≡ true }
         requires uncounted { slot.counted ≡ false }
         ensures table { IfOk result (λ made. made.table ≡ record { none = entry_of none_set (Some (kept_of A.meaning slot)); entries = [] }) }
@@ -323,7 +263,7 @@ impl<A: Aggregator> Table<A> {
 
     /// What sets and lists are hashed with.
     pub fn hasher(&self) -> SetHashBuilder {
-        self.keys.hasher()
+        self.keys.hasher
     }
 
     /// The number of the empty set's slot.
@@ -377,7 +317,8 @@ impl<A: Aggregator> Table<A> {
         ensures aliases { self.new.aliases ≡ self.old.aliases }
         ensures room { OnOk result (self.new.room ≡ true) }
     {
-        reserve_one(&mut self.slots, &mut self.keys)
+        self.slots.reserve(1)?;
+        self.keys.reserve_one()
     }
 
     /// Takes a record into the entry with this number, without a look-up.
@@ -410,8 +351,7 @@ impl<A: Aggregator> Table<A> {
         ensures numbers { KeepLeft (evicted_table self.old.table).entries self.old.numbers self.new.numbers }
         ensures aliases { keys_of self.new.aliases ≡ filter (λ l. has (canon l) (evicted_table self.old.table).entries) (keys_of self.old.aliases) }
     {
-        settle(&mut self.slots, self.none);
-        settle_each(&mut self.slots, &self.keys);
+        settle(&mut self.slots);
         self.keys.keep_filled(&self.slots);
     }
 
@@ -461,8 +401,7 @@ impl<A: Aggregator> Table<A> {
         ensures sets { self.new.numbers.sets ≡ [] }
         ensures aliases { self.new.aliases ≡ [] }
     {
-        free_each(&mut self.slots, &self.keys);
-        forget(&mut self.slots, self.none);
+        clear_others(&mut self.slots, self.none);
         self.keys.clear();
     }
 
@@ -478,11 +417,7 @@ impl<A: Aggregator> Table<A> {
         ensures points { IfOk result (λ given. map M.seen given.items ≡ map (M.shown maker.now) (points every self.now.table)) }
         ensures only_memory { IsOkUnless result Fault.OutOfMemory }
     {
-        let more = if every {
-            self.keys.count_sets()
-        } else {
-            count_updated(&self.slots, &self.keys)
-        };
+        let more = count_shown(&self.slots, &self.keys, every);
         let mut points = first_points(alloc, maker, &self.slots, self.none, more)?;
         add_points(alloc, maker, &self.slots, &self.keys, every, &mut points)?;
         Ok(points)
@@ -520,7 +455,7 @@ impl<A: Aggregator> Table<A> {
         ensures only_memory { IsOkUnless result Fault.OutOfMemory }
     {
         let none = self.slots.get(self.none).unwrap();
-        let mut made = Table::with_none(alloc, self.keys.hasher(), copy_slot(alloc, none)?)?;
+        let mut made = Table::new(alloc, self.keys.hasher, copy_slot(alloc, none)?)?;
         copy_entries(alloc, &self.slots, &self.keys, &mut made)?;
         Ok(made)
     }
@@ -544,7 +479,7 @@ fn copy_entries<A: Aggregator>(
         if let Some(slot) = slots.get(*number) {
             made.make_room()?;
             let slot = copy_slot(alloc, slot)?;
-            let set = OwnedSet::new(keys.hasher(), set.key().share()?);
+            let set = OwnedSet::new(keys.hasher, set.key().share()?);
             made.add(set, None, slot);
         }
     }

@@ -5,29 +5,25 @@ use Rattle.otel_model_stream.specs.Maps.{MapState, bound_to}
 use Rattle.otel_model_stream.specs.Sets.{AttributeSet, over_set}
 use Rattle.otel_aggregate.specs.value_map.Contents.{MapContents}
 use Rattle.otel_aggregate.specs.value_map.Numbers.{handles_at}
-use Rattle.otel_aggregate.proofs.value_map.PlaceLemmas.{place-admitted, place-over_made, new-there, no_handles, bound-by, made_key}
+use Rattle.otel_aggregate.proofs.value_map.PlaceLemmas.{place-admitted, place-over_made, new-there, unheld, made_key}
 use Rattle.otel_aggregate.proofs.value_map.ValueMap.handles_there.Goals as goal
 
 pub returns-then-self : goal.returns-then-self
 returns-then-self g c = λ s e.
     let inside = c.self.inside in
-    let t = inside.table in
-    let m : MapState = record { limit = inside.limit; empty = g.A.Aggregator.empty inside.config; table = t.table } in
-    let fresh = new-there t _ _ inside.pending s c.self.invariant.3 c.in_default.ensures.other (ap (λ (h : MapContents). h.pending) c.self.view_is ∙ e) in
-    let few : nat_lt (number_counted t.table.entries) inside.limit ≡ true = rw (← c.self.invariant.0) (lt-ltb _ _ c.if-self.true) in
-    let used : bound_to s m ≡ s = bound-by m s _ s (place-admitted inside.limit m.empty s t.table.entries fresh.0 fresh.1 few) in
-    let none : handles_at s t.table ≡ 0 = no_handles s t.table (ap (λ (x : Entry). x.set) c.law_of_empty_set.ensures.1) fresh.0 fresh.1 in
-    subst (λ (h : MapContents). 0 ≡ handles_at (bound_to s h.state) h.state.table) c.self.view_is (sym (ap (λ (x : AttributeSet). handles_at x t.table) used ∙ none))
+    let m : MapState = record { limit = inside.limit; empty = g.A.Aggregator.empty inside.config; table = inside.table.table } in
+    let fresh = new-there inside.table _ _ inside.pending s c.self.invariant.3 c.in_default.not-At (ap (λ (h : MapContents). h.pending) c.self.view_is ∙ e) in
+    let few : nat_lt (number_counted m.table.entries) m.limit ≡ true = rw (← c.self.invariant.0) (lt-ltb _ _ c.if-self.true) in
+    subst (λ (h : MapContents). 0 ≡ handles_at (bound_to s h.state) h.state.table) c.self.view_is
+    (unheld m s _ s (place-admitted m.limit m.empty s m.table.entries fresh.0 fresh.1 few) (ap (λ (x : Entry). x.set) c.law_of_empty_set.ensures.1) fresh.0 fresh.1)
 
 pub returns-in-None : goal.returns-in-None
 returns-in-None g c = λ s e.
     let inside = c.self.inside in
-    let t = inside.table in
-    let m : MapState = record { limit = inside.limit; empty = g.A.Aggregator.empty inside.config; table = t.table } in
-    let fresh = new-there t _ _ inside.pending s c.self.invariant.3 c.in_default.ensures.other (ap (λ (h : MapContents). h.pending) c.self.view_is ∙ e) in
-    let full : nat_lt (number_counted t.table.entries) inside.limit ≡ false = rw (← c.self.invariant.0) (le-ltb _ _ c.if-self.false) in
-    let over : c.lent-set.result.key ≡ over_set = c.lent-set.ensures ∙ made_key inside.spare_key c.in-Some-spare_key.overflow c.self.invariant.2 c.in-Some-spare_key.is in
-    let gone : has over_set t.table.entries ≡ false = ap (λ (x : AttributeSet). has x t.table.entries) (sym over) ∙ sym c.in-None.ensures.placed in
-    let used : bound_to s m ≡ over_set = bound-by m s _ over_set (place-over_made inside.limit m.empty s t.table.entries fresh.0 fresh.1 full gone) in
-    let none : handles_at over_set t.table ≡ 0 = no_handles over_set t.table (ap (λ (x : Entry). x.set) c.law_of_empty_set.ensures.1) refl gone in
-    subst (λ (h : MapContents). 0 ≡ handles_at (bound_to s h.state) h.state.table) c.self.view_is (sym (ap (λ (x : AttributeSet). handles_at x t.table) used ∙ none))
+    let m : MapState = record { limit = inside.limit; empty = g.A.Aggregator.empty inside.config; table = inside.table.table } in
+    let fresh = new-there inside.table _ _ inside.pending s c.self.invariant.3 c.in_default.not-At (ap (λ (h : MapContents). h.pending) c.self.view_is ∙ e) in
+    let full : nat_lt (number_counted m.table.entries) m.limit ≡ false = rw (← c.self.invariant.0) (le-ltb _ _ c.if-self.false) in
+    let over : c.lent.result.key ≡ over_set = c.lent.ensures ∙ made_key inside.spare_key c.in-Some.overflow c.self.invariant.2 c.in-Some.is in
+    let gone : has over_set m.table.entries ≡ false = ap (λ (x : AttributeSet). has x m.table.entries) (sym over) ∙ sym c.in-None.ensures.placed in
+    subst (λ (h : MapContents). 0 ≡ handles_at (bound_to s h.state) h.state.table) c.self.view_is
+    (unheld m s _ over_set (place-over_made m.limit m.empty s m.table.entries fresh.0 fresh.1 full gone) (ap (λ (x : Entry). x.set) c.law_of_empty_set.ensures.1) refl gone)

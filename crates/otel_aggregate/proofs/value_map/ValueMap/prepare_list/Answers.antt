@@ -1,12 +1,8 @@
-use Rattle.std.proofs.Common.{◌∙◌, ap, true, refl, Bool, nat_lt}
-use Rattle.otel_aggregate.specs.value_map.Contents.{pending_in}
-use Rattle.otel_aggregate.proofs.value_map.PlaceLemmas.{sound-at}
+use Rattle.std.proofs.Common.{true, refl}
 use Rattle.otel_aggregate.proofs.value_map.ValueMap.prepare_list.Goals as goal
 
 pub invariant_of-self : goal.invariant_of-self
-invariant_of-self g c =
-    let few : Bool = nat_lt c.self.inside.count c.self.inside.limit in
-    (c.self.invariant.0, c.self.invariant.1, c.self.invariant.2, sound-at c.self.inside.table _ _ c.put_at.new.self c.in-Some.number c.put_at.ensures ((c.in-Some.ensures.plan few).sound true refl))
+invariant_of-self g c = (c.self.invariant.0, c.self.invariant.1, c.self.invariant.2, (c.in-Some.ensures.plan true).sound true refl)
 
 pub returns-in-Some-clause-ready : goal.returns-in-Some-clause-ready
-returns-in-Some-clause-ready g c = ap (pending_in c.self.inside.table.numbers) c.put_at.ensures ∙ (c.in-Some.ensures.plan true).pending
+returns-in-Some-clause-ready g c = (c.in-Some.ensures.plan true).pending

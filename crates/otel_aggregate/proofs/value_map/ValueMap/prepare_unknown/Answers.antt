@@ -1,4 +1,4 @@
-use Rattle.std.proofs.Common.{◌≡◌, ◌∙◌, ◌&&◌, ◌||◌, not, cond, ap, sym, subst, refl, true, false, true≢false, Bool, ℕ, Option, Some, None, List, [], ◌∷◌, is_some, nat_lt, arith}
+use Rattle.std.proofs.Common.{◌≡◌, ◌∙◌, ◌&&◌, ◌||◌, not, cond, ap, sym, subst, refl, true, false, true≢false, Bool, ℕ, Option, Some, None, List, [], ◌∷◌, is_some, nat_lt}
 use Rattle.otel_common.specs.Canonical.{canon}
 use Rattle.otel_common.specs.Equality.{set_eq}
 use Rattle.otel_common.specs.declared.attributes.KeyValue.{KeyValue}
@@ -6,7 +6,7 @@ use Rattle.otel_model_stream.specs.Entries.{Entry, Table, has, number_counted}
 use Rattle.otel_model_stream.specs.Sets.{AttributeSet, none_set, over_set}
 use Rattle.otel_aggregate.specs.value_map.Keyed.{Slotted}
 use Rattle.otel_aggregate.specs.value_map.Numbers.{Numbers, is_placed, spelling_of}
-use Rattle.otel_aggregate.specs.value_map.Contents.{MapContents, IsPlan, IsPlanFor, IsSound, is_new, known_of, pending_in, spelling_in, target_of}
+use Rattle.otel_aggregate.specs.value_map.Contents.{MapContents, IsPlan, IsPlanFor, known_of, pending_in, target_of}
 use Rattle.otel_aggregate.specs.declared.value_map.pending.Pending.{Pending}
 use Rattle.otel_aggregate.specs.declared.value_map.pending.Pending.TheVariants.{Nothing, At, New}
 use Rattle.otel_aggregate.proofs.value_map.CanonicalSets.{some-canon}
@@ -14,8 +14,8 @@ use Rattle.otel_aggregate.proofs.value_map.PlanLemmas.{sound-same, unknown-some,
 use Rattle.otel_aggregate.proofs.value_map.ValueMap.prepare_unknown.Goals as goal
 
 -- a list for which a new set is planned has no place
-new-unplaced : (t : Slotted) (few : Bool) (l : List KeyValue) (over : Option ℕ) (plan : Pending) → set_eq l none_set ≡ false → IsPlanFor t few l (target_of over l t.table.entries) plan → is_new plan ≡ true → is_placed (canon l) t.table.entries ≡ false
-new-unplaced t few l over plan some p new = ap (λ b. b || has (canon l) t.table.entries) (some-canon l some) ∙ by over plan p new (has (canon l) t.table.entries) refl
+new-unplaced : (t : Slotted) (few : Bool) (l : List KeyValue) (over : Option ℕ) (plan : Pending) → set_eq l none_set ≡ false → IsPlanFor t few l (target_of over l t.table.entries) plan → ((n : ℕ) → plan ≡ At n → ⊥) → is_placed (canon l) t.table.entries ≡ false
+new-unplaced t few l over plan some p other = ap (λ b. b || has (canon l) t.table.entries) (some-canon l some) ∙ by over plan p other (has (canon l) t.table.entries) refl
   where
     away : (set : AttributeSet) (list : Option (List KeyValue)) → IsPlan t few l (New set list) → has (canon l) t.table.entries ≡ false
     away set list q =
@@ -23,12 +23,12 @@ new-unplaced t few l over plan some p new = ap (λ b. b || has (canon l) t.table
         let same : set ≡ canon l = cc in
         ap (λ (s : AttributeSet). has s t.table.entries) (sym same) ∙ (q.sound true refl).absent
 
-    by : (over : Option ℕ) (plan : Pending) → IsPlanFor t few l (target_of over l t.table.entries) plan → is_new plan ≡ true → (b : Bool) → has (canon l) t.table.entries ≡ b → has (canon l) t.table.entries ≡ false
-    by over Nothing q e b h = absurd (true≢false (sym e))
-    by over (At n) q e b h = absurd (true≢false (sym e))
-    by None (New set list) q e b h = away set list q
-    by (Some n) (New set list) q e false h = h
-    by (Some n) (New set list) q e true h = away set list (subst (λ (s : AttributeSet). IsPlanFor t few l s (New set list)) (ap (λ b. cond (not b) over_set (canon l)) h) q)
+    by : (over : Option ℕ) (plan : Pending) → IsPlanFor t few l (target_of over l t.table.entries) plan → ((n : ℕ) → plan ≡ At n → ⊥) → (b : Bool) → has (canon l) t.table.entries ≡ b → has (canon l) t.table.entries ≡ false
+    by over Nothing q other b h = let e = q.pending in absurd (cc)
+    by over (At n) q other b h = absurd (other n refl)
+    by None (New set list) q other b h = away set list q
+    by (Some n) (New set list) q other false h = h
+    by (Some n) (New set list) q other true h = away set list (subst (λ (s : AttributeSet). IsPlanFor t few l s (New set list)) (ap (λ b. cond (not b) over_set (canon l)) h) q)
 
 pub invariant_of-self-2 : goal.invariant_of-self-2
 invariant_of-self-2 g c =
@@ -39,13 +39,12 @@ invariant_of-self-2 g c =
       c.self.invariant.0 ∙ ap (λ (x : Table). number_counted x.entries) (sym c.make_ready.ensures.table),
       c.make_ready.ensures.empty,
       c.make_ready.ensures.over,
-      subst (IsSound n few room) (sym c.put-2.ensures) (sound-same t n few room c.in_ok-plan.plan c.make_ready.ensures.table c.make_ready.ensures.numbers c.make_ready.ensures.aliases (c.in_ok-plan.ensures.plan.sound room c.in_ok-make_ready.ensures.ready)),
+      sound-same t n few room c.in_ok-plan.plan c.make_ready.ensures.table c.make_ready.ensures.numbers c.make_ready.ensures.aliases (c.in_ok-plan.ensures.plan.sound room c.in_ok-make_ready.ensures.ready),
     )
 
 pub returns-clause-ready : goal.returns-clause-ready
 returns-clause-ready g c =
-    ap (pending_in c.make_ready.new.table.numbers) c.put-2.ensures
-    ∙ ap (λ (ns : Numbers). pending_in ns c.in_ok-plan.plan) c.make_ready.ensures.numbers
+    ap (λ (ns : Numbers). pending_in ns c.in_ok-plan.plan) c.make_ready.ensures.numbers
     ∙ c.in_ok-plan.ensures.plan.pending
     ∙ ap (λ (h : MapContents). Some (target_of c.args.overflow c.args.list.now.key h.state.table.entries)) c.self.view_is
 
@@ -53,26 +52,23 @@ pub returns-clause-spelling : goal.returns-clause-spelling
 returns-clause-spelling g c =
     let l : List KeyValue = c.args.list.now.key in
     let entries : List Entry = c.self.inside.table.table.entries in
-    ap spelling_in c.put-2.ensures
-    ∙ c.in_ok-plan.ensures.plan.spelling
+    c.in_ok-plan.ensures.plan.spelling
     ∙ ap (λ (k : ℕ). cond ((not (set_eq (canon l) none_set) && (not (has (canon l) entries) && nat_lt k c.self.inside.limit)) && not (set_eq (canon l) l)) (l ∷ []) []) c.self.invariant.0
     ∙ ap (λ (h : MapContents). spelling_of l h.state) c.self.view_is
 
-pub returns-then-not-is_new-clause-spelling : goal.returns-then-not-is_new-clause-spelling
-returns-then-not-is_new-clause-spelling g c =
+pub returns-in-At-clause-spelling : goal.returns-in-At-clause-spelling
+returns-in-At-clause-spelling g c =
     let l : List KeyValue = c.args.list.now.key in
     let entries : List Entry = c.self.inside.table.table.entries in
-    ap spelling_in c.put.ensures
-    ∙ c.in_ok-plan.ensures.plan.spelling
+    c.in_ok-plan.ensures.plan.spelling
     ∙ ap (λ (k : ℕ). cond ((not (set_eq (canon l) none_set) && (not (has (canon l) entries) && nat_lt k c.self.inside.limit)) && not (set_eq (canon l) l)) (l ∷ []) []) c.self.invariant.0
     ∙ ap (λ (h : MapContents). spelling_of l h.state) c.self.view_is
 
 pub returns-in_err-make_ready-clause-placed : goal.returns-in_err-make_ready-clause-placed
 returns-in_err-make_ready-clause-placed g c =
     let few : Bool = nat_lt c.self.inside.count c.self.inside.limit in
-    let new : is_new c.in_ok-plan.plan ≡ true = grind arith in
     let some : set_eq c.args.list.now.key none_set ≡ false = unknown-some c.args.list.now.key (known_of c.args.self.now) c.requires.unknown in
-    let away = new-unplaced c.self.inside.table few c.args.list.now.key c.args.overflow c.in_ok-plan.plan some c.in_ok-plan.ensures.plan new in
+    let away = new-unplaced c.self.inside.table few c.args.list.now.key c.args.overflow c.in_ok-plan.plan some c.in_ok-plan.ensures.plan c.in_default.not-At in
     rw (← c.self.view_is) (λ placed. absurd (true≢false (sym placed ∙ away)))
 
 pub returns-in_err-plan-clause-placed : goal.returns-in_err-plan-clause-placed

@@ -5,11 +5,14 @@ use Rattle.otel_aggregate.proofs.value_map.table.Table.make_room.Goals as goal
 
 pub invariant_of-self : goal.invariant_of-self
 invariant_of-self g c =
-    let laws = subst (λ (look : Look). IsConsistent look c.self.inside.none c.self.inside.keys.sets c.self.inside.keys.aliases) (sym c.reserve_one.ensures.look) c.self.invariant in
+    subst (λ (look : Look). IsConsistent look c.self.inside.none c.self.inside.keys.sets c.self.inside.keys.aliases) (ap (look_in g.A.Aggregator.meaning) (sym c.reserve.ensures.rest_kept)) c.self.invariant
+
+pub invariant_of-self-2 : goal.invariant_of-self-2
+invariant_of-self-2 g c =
+    let look = ap (look_in g.A.Aggregator.meaning) (sym c.reserve.ensures.rest_kept) in
+    let laws = subst (λ (look : Look). IsConsistent look c.self.inside.none c.self.inside.keys.sets c.self.inside.keys.aliases) look c.self.invariant in
     rw (c.reserve_one.ensures.sets, c.reserve_one.ensures.aliases) laws
 
 pub returns-clause-table : goal.returns-clause-table
 returns-clause-table g c =
-    ap (λ (look : Look). table_at look c.self.inside.none c.reserve_one.new.keys.sets) c.reserve_one.ensures.look
-    ∙ ap (λ (es : List Keyed). table_at (look_in g.A.Aggregator.meaning c.self.inside.slots) c.self.inside.none es) c.reserve_one.ensures.sets
-    ∙ ap (λ (t : Slotted). t.table) c.self.view_is
+    (λ i. table_at (look_in g.A.Aggregator.meaning (c.reserve.ensures.rest_kept i)) c.self.inside.none (c.reserve_one.ensures.sets i)) ∙ ap (λ (t : Slotted). t.table) c.self.view_is

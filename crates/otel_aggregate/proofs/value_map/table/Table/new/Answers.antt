@@ -1,7 +1,7 @@
 use Rattle.std.proofs.Common.{◌∙◌, ap, is_some}
 use Rattle.otel_aggregate.specs.value_map.Keyed.{is_lasting, is_counted}
 use Rattle.otel_aggregate.proofs.value_map.KeyedLemmas.{kept-new, same_number}
-use Rattle.otel_aggregate.proofs.value_map.table.Table.with_none.Goals as goal
+use Rattle.otel_aggregate.proofs.value_map.table.Table.new.Goals as goal
 
 pub invariant_of-result : goal.invariant_of-result
 invariant_of-result g c =

@@ -1,8 +1,0 @@
-use Rattle.std.proofs.Common.{true, refl, Bool, nat_lt}
-use Rattle.otel_aggregate.proofs.value_map.PlaceLemmas.{sound-at}
-use Rattle.otel_aggregate.proofs.value_map.ValueMap.prepare_many_allowed.Goals as goal
-
-pub invariant_of-self-in_default : goal.invariant_of-self-in_default
-invariant_of-self-in_default g c =
-    let few : Bool = nat_lt c.self.inside.count c.self.inside.limit in
-    (c.self.invariant.0, c.self.invariant.1, c.self.invariant.2, sound-at c.self.inside.table _ _ c.put_at.new.self c.in-Some.number c.put_at.ensures ((c.in-Some.ensures.plan few).sound true refl))
