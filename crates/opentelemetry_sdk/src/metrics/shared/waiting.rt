@@ -1,8 +1,8 @@
 //! The list of a worker.
 
-ghost use Rattle.std.specs.Prelude.{◌≡◌, ◌≤◌, ◌<◌, ◌+◌, ◌++◌, ◌∷◌, ◌⊎◌, [], ℕ, Contains, Err, slice_get, None, Some, IsSome, IsOk, IfOk, OnOk, OnErr, IfSome, OnSome, IfNone, get_or, IsOkUnless, drop, length, position};
+ghost use Rattle.std.specs.Prelude.{◌≡◌, ◌≤◌, ◌<◌, ◌+◌, ◌++◌, ◌∷◌, ◌⊎◌, [], ℕ, Contains, Err, slice_get, None, Some, IsSome, IsOk, IfOk, OnOk, OnErr, IfSome, IfNone, get_or, IsOkUnless, drop, length, position};
 ghost use Rattle.opentelemetry_sdk.specs.Series.{series, series_eq};
-ghost use Rattle.opentelemetry_sdk.specs.Waiting.{HasSeries, KeepsSeries, lent_record, record_in, record_at, series_placed};
+ghost use Rattle.opentelemetry_sdk.specs.Waiting.{HasSeries, KeepsSeries, lent_record, record_in, series_placed};
 
 use crate::metrics::shared::pending::{LentRecord, ListedRecord, PendingRecord, WaitingRecord};
 use crate::metrics::shared::series_table::SeriesTable;
@@ -276,62 +276,17 @@ impl Waiting {
         }
     }
 
-    /// Adds a series that is new, and answers its place.
+    /// Adds a series that is new, and answers its place. May forget all others before.
+    #[inline(never)]
     fn learn(&mut self, instrument: usize, attributes: Vec<KeyValue>) -> Result<usize, Fault>
         requires { position (series_eq (series instrument attributes.items)) self.old.series ≡ None }
-        ensures added { OnOk result (self.new.series ≡ self.old.series ++ series instrument attributes.items ∷ []) }
-        ensures place { IfOk result (λ n. n ≡ length self.old.series) }
-        ensures unadded { OnErr result (self.new.series ≡ self.old.series) }
+        ensures placed { IfOk result (λ n. (n < length self.new.series) × (get_or self.new.series n (series 0 []) ≡ series instrument attributes.items)) }
         ensures only_memory { IsOkUnless result Fault.OutOfMemory }
-        ensures kept { (self.new.emptied ≡ self.old.emptied) × (self.new.records ≡ self.old.records) × (self.new.room ≡ self.old.room) }
-    {
-        self.table.add(instrument, attributes)
-    }
-
-    /// Adds a series that is new, and a record of it.
-    #[inline(never)]
-    fn add_new(
-        &mut self,
-        instrument: usize,
-        value: NumberValue,
-        attributes: Vec<KeyValue>,
-    ) -> Result<(), Fault>
-        requires { position (series_eq (series instrument attributes.items)) self.old.series ≡ None }
-        ensures added { OnOk result (self.new.records ≡ self.old.records ++ PendingRecord.Plain instrument value attributes.items ∷ []) }
-        ensures unadded { OnErr result (self.new.records ≡ self.old.records) }
-        ensures only_memory { IsOkUnless result Fault.OutOfMemory }
-        ensures room { self.old.room ≤ self.new.room + 1 }
-        ensures learnt { OnOk result (Contains self.new.series (series instrument attributes.items)) }
+        ensures kept { (self.new.records ≡ self.old.records) × (self.old.room ≤ self.new.room) }
         ensures series { KeepsSeries self.old self.new }
     {
         self.forget_many();
-        let place = self.learn(instrument, attributes)?;
-        self.add_placed(place, value)
-    }
-
-    /// Where the series of an instrument and a list stands.
-    #[inline(always)]
-    fn place_of(&self, instrument: usize, attributes: &[KeyValue]) -> Option<usize>
-        ensures there { IfSome result (λ n. (n < length self.now.series) × (get_or self.now.series n (series 0 []) ≡ series instrument attributes.now)) }
-        ensures known { OnSome result (Contains self.now.series (series instrument attributes.now)) }
-        ensures none { IfNone result (position (series_eq (series instrument attributes.now)) self.now.series ≡ None) }
-        ensures unknown { IfNone result (¬ Contains self.now.series (series instrument attributes.now)) }
-    {
-        self.table.find(instrument, attributes)
-    }
-
-    /// Adds a record of a series at a place.
-    #[inline(always)]
-    fn add_placed(&mut self, place: usize, value: NumberValue) -> Result<(), Fault>
-        requires { place < length self.old.series }
-        ensures added { OnOk result (self.new.records ≡ self.old.records ++ record_at self.old.series place value ∷ []) }
-        ensures unadded { OnErr result (self.new.records ≡ self.old.records) }
-        ensures only_memory { IsOkUnless result Fault.OutOfMemory }
-        ensures succeeds { 0 < self.old.room → IsOk result }
-        ensures room { self.old.room ≤ self.new.room + 1 }
-        ensures kept { (self.new.emptied ≡ self.old.emptied) × (self.new.series ≡ self.old.series) }
-    {
-        self.push(WaitingRecord::Plain { place, value })
+        self.table.add(instrument, attributes)
     }
 
     /// Adds a record with a list of its own.
@@ -349,9 +304,12 @@ impl Waiting {
         ensures learnt { OnOk result (Contains self.new.series (series instrument attributes.items)) }
         ensures series { KeepsSeries self.old self.new }
     {
-        match self.place_of(instrument, &attributes) {
-            Some(place) => self.add_placed(place, value),
-            None => self.add_new(instrument, value, attributes),
+        match self.table.find(instrument, &attributes) {
+            Some(place) => self.push(WaitingRecord::Plain { place, value }),
+            None => {
+                let place = self.learn(instrument, attributes)?;
+                self.push(WaitingRecord::Plain { place, value })
+            }
         }
     }
 
@@ -371,13 +329,8 @@ impl Waiting {
         ensures learnt { OnOk result (Contains self.new.series (series instrument attributes.now)) }
         ensures series { KeepsSeries self.old self.new }
     {
-        match self.place_of(instrument, attributes) {
-            Some(place) => self.add_placed(place, value),
-            None => {
-                let copied = Vec::from_clones(self.table.allocator(), attributes)?;
-                self.add_new(instrument, value, copied)
-            }
-        }
+        let place = self.placed(instrument, attributes)?;
+        self.push(WaitingRecord::Plain { place, value })
     }
 
     /// Adds a record through a handle.
@@ -394,35 +347,25 @@ impl Waiting {
     }
 
     /// The place of the series of an instrument and a list, which is copied if the series is new.
+    #[inline(always)]
     pub(crate) fn placed(
         &mut self,
         instrument: usize,
         attributes: &[KeyValue],
     ) -> Result<usize, Fault>
-        ensures placed { IfOk result (λ n. slice_get self.new.series n ≡ Some (series instrument attributes.now)) }
+        ensures placed { IfOk result (λ n. (n < length self.new.series) × (get_or self.new.series n (series 0 []) ≡ series instrument attributes.now)) }
         ensures only_memory { IsOkUnless result Fault.OutOfMemory }
         ensures known { Contains self.old.series (series instrument attributes.now) → IsOk result }
         ensures kept { (self.new.records ≡ self.old.records) × (self.old.room ≤ self.new.room) }
         ensures series { KeepsSeries self.old self.new }
     {
-        match self.place_of(instrument, attributes) {
+        match self.table.find(instrument, attributes) {
             Some(place) => Ok(place),
-            None => self.learn_copy(instrument, attributes),
+            None => {
+                let copied = Vec::from_clones(self.table.allocator(), attributes)?;
+                self.learn(instrument, copied)
+            }
         }
-    }
-
-    /// Adds a series that is new, with a copy of its list, and answers its place.
-    #[inline(never)]
-    fn learn_copy(&mut self, instrument: usize, attributes: &[KeyValue]) -> Result<usize, Fault>
-        requires { position (series_eq (series instrument attributes.now)) self.old.series ≡ None }
-        ensures placed { IfOk result (λ n. slice_get self.new.series n ≡ Some (series instrument attributes.now)) }
-        ensures only_memory { IsOkUnless result Fault.OutOfMemory }
-        ensures kept { (self.new.records ≡ self.old.records) × (self.old.room ≤ self.new.room) }
-        ensures series { KeepsSeries self.old self.new }
-    {
-        let copied = Vec::from_clones(self.table.allocator(), attributes)?;
-        self.forget_many();
-        self.learn(instrument, copied)
     }
 
     /// How often the worker forgot all series.
@@ -452,6 +395,6 @@ impl Waiting {
         if emptied != self.table.emptied() || place >= self.table.len() {
             return Err(Fault::UnknownHandle);
         }
-        self.add_placed(place, value)
+        self.push(WaitingRecord::Plain { place, value })
     }
 }
