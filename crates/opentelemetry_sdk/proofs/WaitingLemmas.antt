@@ -1,12 +1,17 @@
 -- Lists of records that wait.
-use Rattle.std.proofs.Common.{Result, Ok, Err, OnOk, OnErr, position, IfSome, IfNone, Option, Some, None, is_some, true, true≢false, Contains, ◌≡◌, ◌∙◌, ℕ, ◌+◌, ◌<◌, List, [], ◌∷◌, ◌++◌, map, length, get_or, drop, refl, sym, ap}
+use Rattle.std.proofs.Common.{Result, Ok, Err, OnOk, OnErr, position, IfSome, IfNone, Option, Some, None, is_some, true, true≢false, Contains, ◌≡◌, ◌∙◌, ℕ, ◌+◌, ◌<◌, List, [], ◌∷◌, ◌++◌, map, length, get_or, slice_get, drop, refl, sym, ap, add-one, drop-cons}
+use Rattle.std.proofs.Math.Dec.{ltb}
+use Rattle.std.proofs.lemmas.Bool.{ltb-true}
 use Rattle.std.proofs.lemmas.List.{append-nil, drop-drop, drop-map, get_or_append_left}
 use Rattle.std.proofs.lemmas.List.Folds.{list_any_at}
 use Rattle.std.proofs.lemmas.List.Quantifiers.{position-Some}
+use Rattle.std.proofs.lemmas.Option.{get_or_from_slice_get}
 use Rattle.std.specs.List.{AllByRecursion, list_any}
+use Rattle.otel_data.specs.declared.numbers.NumberValue.{NumberValue}
 use Rattle.opentelemetry_sdk.specs.Series.{series, series_eq, series_eq-Decides}
 use Rattle.opentelemetry_sdk.specs.Waiting.{HasSeries, plain, record_in}
 use Rattle.otel_common.specs.declared.faults.Fault.{Fault}
+use Rattle.opentelemetry_sdk.specs.declared.metrics.shared.pending.PendingRecord.TheVariants as pending
 use Rattle.opentelemetry_sdk.specs.declared.metrics.shared.pending.WaitingRecord.{WaitingRecord}
 use Rattle.opentelemetry_sdk.specs.declared.metrics.shared.pending.WaitingRecord.TheVariants as waiting
 use Rattle.opentelemetry_sdk.specs.declared.metrics.shared.series.Series.{Series}
@@ -15,6 +20,13 @@ use Rattle.opentelemetry_sdk.proofs.pipeline.Builds.{any-position}
 -- one is passed
 pub passed : {X Y : Type 0} (f : X → Y) (xs : List X) (n : ℕ) → map f (drop (n + 1) xs) ≡ drop 1 (map f (drop n xs))
 passed f xs n = ap (map f) (sym (drop-drop 1 n xs)) ∙ sym (drop-map f 1 (drop n xs))
+
+-- one of a series is there
+pub taken : (ss : List Series) (rs xs : List WaitingRecord) (n place : ℕ) (value : NumberValue) (r : WaitingRecord) (s : Series)
+    → xs ≡ rs → true ≡ ltb n (length xs) → r ≡ get_or xs n r → r ≡ waiting.Plain place value → slice_get ss place ≡ Some s
+    → map (record_in ss) (drop n rs) ≡ pending.Plain s.instrument value s.attributes ∷ map (record_in ss) (drop (n + 1) rs)
+taken ss rs xs n place value r s same lt get is at =
+    rw (sym same, add-one, drop-cons xs n r (ltb-true n (length xs) (sym lt)), sym get ∙ is, get_or_from_slice_get ss place s (series 0 []) at) refl
 
 -- ======== series ========
 module _ (q : Series) where

@@ -1,9 +1,12 @@
 //! The list of a worker.
 
-ghost use Rattle.std.specs.Prelude.{◌≡◌, ◌≤◌, ◌<◌, ◌+◌, ◌++◌, ◌∷◌, ◌⊎◌, [], ℕ, Contains, Err, slice_get, None, Some, IsSome, IsOk, IfOk, OnOk, OnErr, IfSome, IfNone, get_or, IsOkUnless, drop, length, position};
+ghost use Rattle.std.specs.Prelude.{◌≡◌, ◌≤◌, ◌<◌, ◌+◌, ◌++◌, ◌∷◌, ◌⊎◌, [], ℕ, Contains, Err, slice_get, None, Some, IsSome, IsOk, IfOk, OnOk, OnErr, IfSome, IfNone, get_or, IsOkUnless, drop, length, map, position};
+ghost use Rattle.opentelemetry_sdk.specs.Correspondence.{call_of};
+ghost use Rattle.opentelemetry_sdk.specs.Pending.{call_in};
 ghost use Rattle.opentelemetry_sdk.specs.Series.{series, series_eq};
 ghost use Rattle.opentelemetry_sdk.specs.Waiting.{HasSeries, KeepsSeries, lent_record, record_in, series_placed};
 
+use crate::calls::Call;
 use crate::metrics::shared::pending::{LentRecord, ListedRecord, PendingRecord, WaitingRecord};
 use crate::metrics::shared::series_table::SeriesTable;
 use otel_aggregate::value_map::hashing::SetHashBuilder;
@@ -55,49 +58,6 @@ impl Drop for Waiting {
     }
 }
 
-/// A record whose attributes are lent, with their hash.
-fn lent(table: &SeriesTable, given: WaitingRecord) -> Option<LentRecord<'_>>
-    ensures lent { IfSome result (λ r. lent_record r ≡ record_in table.now.series given) }
-    ensures none { IfNone result (¬ HasSeries (length table.now.series) given) }
-{
-    match given {
-        WaitingRecord::Plain { place, value } => match table.at(place) {
-            Some(series) => Some(LentRecord::Plain {
-                instrument: series.instrument,
-                value,
-                attributes: series.attributes.given(),
-            }),
-            None => None,
-        },
-        WaitingRecord::Bound { handle, value } => Some(LentRecord::Bound { handle, value }),
-    }
-}
-
-/// A record that shares its attributes.
-fn shared(table: &mut SeriesTable, given: WaitingRecord) -> Option<PendingRecord>
-    ensures shared { IfSome result (λ p. p ≡ record_in table.old.series given) }
-    ensures none { IfNone result (¬ HasSeries (length table.old.series) given) }
-    ensures kept { table.new ≡ table.old }
-{
-    match given {
-        WaitingRecord::Plain { place, value } => {
-            let Some(series) = table.at(place) else {
-                return None;
-            };
-            let instrument = series.instrument;
-            let Some(attributes) = table.share(place) else {
-                return None;
-            };
-            Some(PendingRecord::Plain {
-                instrument,
-                value,
-                attributes,
-            })
-        }
-        WaitingRecord::Bound { handle, value } => Some(PendingRecord::Bound { handle, value }),
-    }
-}
-
 impl Waiting {
     /// A list without records, which knows no series and hashes them with this hasher. Takes no memory.
     pub(crate) fn new(alloc: Global, hasher: SetHashBuilder) -> Waiting
@@ -122,10 +82,17 @@ impl Waiting {
         ensures first { IfSome result (λ r. self.now.records ≡ lent_record r ∷ drop 1 self.now.records) }
         ensures none { IfNone result (self.now.records ≡ []) }
     {
-        let Some(first) = self.records.get(self.made) else {
-            return None;
-        };
-        lent(&self.table, *first)
+        match *self.records.get(self.made)? {
+            WaitingRecord::Plain { place, value } => {
+                let series = self.table.at(place)?;
+                Some(LentRecord::Plain {
+                    instrument: series.instrument,
+                    value,
+                    attributes: series.attributes.given(),
+                })
+            }
+            WaitingRecord::Bound { handle, value } => Some(LentRecord::Bound { handle, value }),
+        }
     }
 
     /// How many series there are.
@@ -198,21 +165,23 @@ impl Waiting {
         self.made += 1;
     }
 
-    /// Takes the first record that waits. Takes no memory.
-    pub(crate) fn take_first(&mut self) -> Option<PendingRecord>
-        ensures first { IfSome result (λ p. self.old.records ≡ p ∷ self.new.records) }
+    /// Takes the first record that waits, as the call that makes it. Takes no memory.
+    pub(crate) fn take_first(&mut self) -> Option<Call>
+        ensures first { IfSome result (λ call. map call_in self.old.records ≡ call_of call ∷ map call_in self.new.records) }
         ensures rest { self.new.records ≡ drop 1 self.old.records }
         ensures none { IfNone result (self.old.records ≡ []) }
         ensures kept { (self.new.emptied ≡ self.old.emptied) × (self.new.series ≡ self.old.series) × (self.new.room ≡ self.old.room) }
     {
-        let Some(first) = self.records.get(self.made) else {
-            return None;
-        };
-        let Some(taken) = shared(&mut self.table, *first) else {
-            return None;
-        };
+        let first = *self.records.get(self.made)?;
         self.made += 1;
-        Some(taken)
+        match first {
+            WaitingRecord::Plain { place, value } => Some(Call::Record {
+                instrument: self.table.at(place)?.instrument,
+                value,
+                attributes: self.table.share(place)?,
+            }),
+            WaitingRecord::Bound { handle, value } => Some(Call::RecordBound { handle, value }),
+        }
     }
 
     /// Lets the records that are made go, if no others wait, or else if they are more than those.
