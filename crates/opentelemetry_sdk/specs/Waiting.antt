@@ -32,10 +32,6 @@ place_of (waiting.Bound handle value) = 0
 abbrev pub record_in : List Series → WaitingRecord → PendingRecord
 record_in ss r = plain (get_or ss (place_of r) (series 0 [])) r
 
--- a record of the series at a place
-abbrev pub record_at : List Series → ℕ → NumberValue → PendingRecord
-record_at ss place value = pending.Plain (get_or ss place (series 0 [])).instrument value (get_or ss place (series 0 [])).attributes
-
 -- its series is one of this many
 abbrev pub HasSeries : ℕ → WaitingRecord → Type 0
 HasSeries n (waiting.Plain place value) = place < n

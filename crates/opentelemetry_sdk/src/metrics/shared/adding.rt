@@ -253,9 +253,6 @@ impl<C: Account, S: Account> Worker<C, S> {
         ensures series { series_of self.new ≡ series_of self.old }
         ensures room { room_of self.old ≤ room_of self.new }
     {
-        match self.waiting.take_first() {
-            Some(first) => Some(first.into_call()),
-            None => None,
-        }
+        self.waiting.take_first()
     }
 }

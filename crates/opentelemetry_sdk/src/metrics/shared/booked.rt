@@ -1,8 +1,7 @@
 //! The core of a shared provider, with its book.
 
-ghost use Rattle.std.specs.Prelude.{◌≡◌, ◌≤◌, ◌<◌, ◌+◌, ◌-◌, ◌%◌, ◌^◌, ◌==◌, ◌∷◌, true, false, if◌then◌else◌, [], map, sum_by, vec_len, is_ok, length, take, drop, None, Some, Err, IfOk, IfErr, OnOk, OnErr};
-ghost use Rattle.opentelemetry_sdk.specs.Checks.{collect_refusal};
-ghost use Rattle.opentelemetry_sdk.specs.Correspondence.{call_of, fault_of, observed_of, reply_of, reply_from};
+ghost use Rattle.std.specs.Prelude.{◌≡◌, ◌≤◌, ◌<◌, ◌+◌, ◌-◌, ◌%◌, ◌^◌, ◌==◌, ◌∷◌, true, false, if◌then◌else◌, [], map, sum_by, vec_len, is_ok, length, take, drop, Err, IfOk, IfErr, OnOk, OnErr};
+ghost use Rattle.opentelemetry_sdk.specs.Correspondence.{call_of, observed_of, reply_of, reply_from};
 ghost use Rattle.opentelemetry_sdk.specs.Known.{IsKnown};
 ghost use Rattle.opentelemetry_sdk.specs.Readers.{StepReaches};
 ghost use Rattle.opentelemetry_sdk.specs.States.{IsNamed};
@@ -11,7 +10,6 @@ ghost use Rattle.otel_model.specs.Demands.{Views};
 ghost use Rattle.otel_model.specs.Laws.{KeepsReaders};
 ghost use Rattle.otel_model.specs.Steps.{Step};
 ghost use Rattle.otel_model.specs.Books.{count_in, sum_in};
-ghost use Rattle.otel_model.specs.Lawful.{Balances};
 ghost use Rattle.opentelemetry_sdk.specs.Pending.{call_in, bits_in, is_record, IsDone, IsRefused, IsKnownFirst, Makes, StopsBy, Submits};
 ghost use Rattle.opentelemetry_sdk.specs.Waiting.{lent_record, StaysListed};
 ghost use Rattle.opentelemetry_sdk.specs.Workers.{waits_of, pending_of, records_of, values_of, worker_identity, worker_number};
@@ -29,7 +27,6 @@ use otel_data::collections::ResourceMetrics;
 use otel_stream::observation::Observed;
 use otel_stream::reader::MetricReader;
 use otel_stream::view::View;
-use std::alloc::Global;
 use std::sync::ledger::{Blank, Book, Share};
 
 /// What a worker is told once all its records have been accepted.
@@ -44,7 +41,7 @@ pub struct Receipt {
 /// What all instruments have accepted is what they had accepted before the provider was shared plus what the book has,
 /// modulo 2^64, by count and by value.
 pub struct Booked<C: Account, S: Account> {
-    core: Core,
+    pub(crate) core: Core,
     /// How many records the book has.
     accepted: u64,
     /// How many workers were opened.
@@ -190,20 +187,6 @@ impl<C: Account, S: Account> Booked<C, S> {
         }
     }
 
-    /// Does nothing. The clauses say what holds whatever was called before.
-    pub(crate) fn balances(&self)
-        ensures balances { Balances self.now.core.state }
-        ensures count { count_in self.now.core.state % 2 ^ 64 ≡ (C.before + self.now.records.total) % 2 ^ 64 }
-        ensures sum { sum_in self.now.core.state % 2 ^ 64 ≡ (S.before + self.now.values.total) % 2 ^ 64 }
-    {
-        self.core.law_of_state();
-    }
-
-    /// The allocator.
-    pub(crate) fn allocator(&self) -> Global {
-        self.core.allocator()
-    }
-
     /// Opens a worker.
     pub(crate) fn open_worker(&mut self) -> Result<Worker<C, S>, Fault>
         ensures variant { is_ok result ≡ (if self.old.opened == 4294967295 then false else true) }
@@ -246,14 +229,6 @@ impl<C: Account, S: Account> Booked<C, S> {
             return Reply::Refused(Fault::UseWorker);
         }
         self.core.step(views, readers, call)
-    }
-
-    /// Checks that a collection of this reader is not refused before its callbacks run.
-    pub(crate) fn check_collection(&self, reader: usize) -> Result<(), Fault>
-        ensures ok { OnOk result (collect_refusal self.now.core.state reader ≡ None) }
-        ensures fault { IfErr result (λ f. collect_refusal self.now.core.state reader ≡ Some (fault_of f)) }
-    {
-        self.core.check_collection(reader)
     }
 
     /// Makes a collection of a reader at a moment, with what was observed.
@@ -306,6 +281,9 @@ impl<C: Account, S: Account> Booked<C, S> {
     {
         let room = u64::MAX - self.accepted;
         let most = worker.waiting.count_listed().min(room as usize);
+        if most == 0 {
+            return;
+        }
         let made = self.core.record_waiting(&worker.waiting, most);
         enter_each(&mut self.records, &mut self.values, worker, made);
         self.accepted += made as u64;

@@ -103,7 +103,7 @@ impl<P: Parts, C: Account, S: Account> Locked<P, C, S> {
     pub fn balances(&self)
         ensures { Balances (state_in self.now) }
     {
-        self.booked.balances();
+        self.booked.core.law_of_state();
     }
 
     /// Does nothing. Its clauses say that what all instruments have accepted is what they had accepted at `new` plus
@@ -112,7 +112,7 @@ impl<P: Parts, C: Account, S: Account> Locked<P, C, S> {
         ensures count { count_in (state_in self.now) % 2 ^ 64 ≡ (C.before + records_in self.now) % 2 ^ 64 }
         ensures sum { sum_in (state_in self.now) % 2 ^ 64 ≡ (S.before + values_in self.now) % 2 ^ 64 }
     {
-        self.booked.balances();
+        let _ = &self.booked;
     }
 
     /// Opens a worker, with an empty list and an empty share. Takes no memory.
@@ -149,7 +149,7 @@ impl<P: Parts, C: Account, S: Account> Locked<P, C, S> {
         ensures workers { workers_in self.new ≡ workers_in self.old }
     {
         let reply = self.booked.call(&self.views, &mut self.readers, call);
-        self.booked.balances();
+        self.booked.core.law_of_state();
         reply
     }
 
@@ -172,15 +172,15 @@ impl<P: Parts, C: Account, S: Account> Locked<P, C, S> {
         ensures book { (records_in self.new ≡ records_in self.old) × (values_in self.new ≡ values_in self.old) }
         ensures workers { workers_in self.new ≡ workers_in self.old }
     {
-        self.booked.balances();
-        self.booked.check_collection(reader)?;
-        let alloc = self.booked.allocator();
+        self.booked.core.law_of_state();
+        self.booked.core.check_collection(reader)?;
+        let alloc = self.booked.core.allocator();
         let observations = match run_callbacks(alloc, &mut self.callbacks) {
             Ok(observations) => observations,
             Err(fault) => return Err(fault),
         };
         let collected = self.booked.collect(reader, now, &observations);
-        self.booked.balances();
+        self.booked.core.law_of_state();
         match collected {
             Ok(collected) => {
                 *metrics = collected;
@@ -216,7 +216,7 @@ impl<P: Parts, C: Account, S: Account> Locked<P, C, S> {
         ensures callbacks { callbacks_in self.new ≡ callbacks_in self.old }
     {
         let submitted = self.booked.submit(worker);
-        self.booked.balances();
+        self.booked.core.law_of_state();
         submitted
     }
 
@@ -248,7 +248,7 @@ impl<P: Parts, C: Account, S: Account> Locked<P, C, S> {
         ensures views { views_in self.new ≡ views_in self.old }
         ensures callbacks { callbacks_in self.new ≡ callbacks_in self.old }
     {
-        self.booked.balances();
+        self.booked.core.law_of_state();
         if instrument.identity() != worker.identity {
             return Err(Fault::UnknownInstrument);
         }
@@ -258,7 +258,7 @@ impl<P: Parts, C: Account, S: Account> Locked<P, C, S> {
             attributes: GivenAttributes::new(attributes),
         };
         let recorded = self.booked.record(worker, &made);
-        self.booked.balances();
+        self.booked.core.law_of_state();
         recorded
     }
 
@@ -285,7 +285,7 @@ impl<P: Parts, C: Account, S: Account> Locked<P, C, S> {
         ensures views { views_in self.new ≡ views_in self.old }
         ensures callbacks { callbacks_in self.new ≡ callbacks_in self.old }
     {
-        self.booked.balances();
+        self.booked.core.law_of_state();
         if handle.identity() != worker.identity {
             return Err(Fault::UnknownHandle);
         }
@@ -294,7 +294,7 @@ impl<P: Parts, C: Account, S: Account> Locked<P, C, S> {
             value: value.into_value(),
         };
         let recorded = self.booked.record(worker, &made);
-        self.booked.balances();
+        self.booked.core.law_of_state();
         recorded
     }
 

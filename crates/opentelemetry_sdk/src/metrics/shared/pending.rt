@@ -1,11 +1,9 @@
 //! Records that wait to be made.
 
 ghost use Rattle.std.specs.Prelude.{◌≡◌};
-ghost use Rattle.opentelemetry_sdk.specs.Correspondence.{call_of};
-ghost use Rattle.opentelemetry_sdk.specs.Pending.{call_in, bits_in};
+ghost use Rattle.opentelemetry_sdk.specs.Pending.{bits_in};
 ghost use Rattle.opentelemetry_sdk.specs.Waiting.{lent_record};
 
-use crate::calls::Call;
 use crate::calls::record_attributes::RecordAttributes;
 use otel_aggregate::value_map::hashed_key::{GivenAttributes, OwnedSet};
 use otel_aggregate::values::bits_of;
@@ -25,26 +23,6 @@ pub enum PendingRecord {
         handle: u64,
         value: NumberValue,
     },
-}
-
-impl PendingRecord {
-    /// The call that makes the record.
-    pub(crate) fn into_call(self) -> Call
-        ensures { call_of result ≡ call_in self }
-    {
-        match self {
-            PendingRecord::Plain {
-                instrument,
-                value,
-                attributes,
-            } => Call::Record {
-                instrument,
-                value,
-                attributes,
-            },
-            PendingRecord::Bound { handle, value } => Call::RecordBound { handle, value },
-        }
-    }
 }
 
 /// A record that waits, with attributes that its worker lends.

@@ -1,6 +1,6 @@
 //! The series that a worker knows.
 
-ghost use Rattle.std.specs.Prelude.{◌≡◌, ◌≤◌, ◌+◌, ◌⊎◌, ◌++◌, ◌∷◌, [], ℕ, None, Some, IfOk, OnOk, OnErr, IfSome, IfNone, IsOkUnless, length, position, slice_get};
+ghost use Rattle.std.specs.Prelude.{◌≡◌, ◌≤◌, ◌<◌, ◌+◌, ◌⊎◌, ◌++◌, ◌∷◌, [], ℕ, Contains, get_or, None, Some, IfOk, OnOk, OnErr, IfSome, IfNone, IsOkUnless, length, position, slice_get};
 ghost use Rattle.std.specs.Option.{option_copied};
 ghost use Rattle.opentelemetry_sdk.specs.Series.{series, series_eq};
 ghost use Rattle.opentelemetry_sdk.specs.declared.metrics.shared.series.Series.{Series};
@@ -78,7 +78,9 @@ impl SeriesTable {
     /// The place of a series, in order of adding.
     #[inline(always)]
     pub(crate) fn find(&self, instrument: usize, attributes: &[KeyValue]) -> Option<usize>
-        ensures { result ≡ position (series_eq (series instrument attributes.now)) self.now.series }
+        ensures there { IfSome result (λ n. (n < length self.now.series) × (get_or self.now.series n (series 0 []) ≡ series instrument attributes.now)) }
+        ensures none { IfNone result (position (series_eq (series instrument attributes.now)) self.now.series ≡ None) }
+        ensures unknown { IfNone result (¬ Contains self.now.series (series instrument attributes.now)) }
     {
         self.series.get_index_of(&SeriesQuery {
             instrument,

@@ -1,9 +1,12 @@
 //! The list of a worker.
 
-ghost use Rattle.std.specs.Prelude.{◌≡◌, ◌≤◌, ◌<◌, ◌+◌, ◌++◌, ◌∷◌, ◌⊎◌, [], ℕ, Contains, Err, slice_get, None, Some, IsSome, IsOk, IfOk, OnOk, OnErr, IfSome, OnSome, IfNone, get_or, IsOkUnless, drop, length, position};
+ghost use Rattle.std.specs.Prelude.{◌≡◌, ◌≤◌, ◌<◌, ◌+◌, ◌++◌, ◌∷◌, ◌⊎◌, [], ℕ, Contains, Err, slice_get, None, Some, IsSome, IsOk, IfOk, OnOk, OnErr, IfSome, IfNone, get_or, IsOkUnless, drop, length, map, position};
+ghost use Rattle.opentelemetry_sdk.specs.Correspondence.{call_of};
+ghost use Rattle.opentelemetry_sdk.specs.Pending.{call_in};
 ghost use Rattle.opentelemetry_sdk.specs.Series.{series, series_eq};
-ghost use Rattle.opentelemetry_sdk.specs.Waiting.{HasSeries, KeepsSeries, lent_record, record_in, record_at, series_placed};
+ghost use Rattle.opentelemetry_sdk.specs.Waiting.{HasSeries, KeepsSeries, lent_record, record_in, series_placed};
 
+use crate::calls::Call;
 use crate::metrics::shared::pending::{LentRecord, ListedRecord, PendingRecord, WaitingRecord};
 use crate::metrics::shared::series_table::SeriesTable;
 use otel_aggregate::value_map::hashing::SetHashBuilder;
@@ -55,49 +58,6 @@ impl Drop for Waiting {
     }
 }
 
-/// A record whose attributes are lent, with their hash.
-fn lent(table: &SeriesTable, given: WaitingRecord) -> Option<LentRecord<'_>>
-    ensures lent { IfSome result (λ r. lent_record r ≡ record_in table.now.series given) }
-    ensures none { IfNone result (¬ HasSeries (length table.now.series) given) }
-{
-    match given {
-        WaitingRecord::Plain { place, value } => match table.at(place) {
-            Some(series) => Some(LentRecord::Plain {
-                instrument: series.instrument,
-                value,
-                attributes: series.attributes.given(),
-            }),
-            None => None,
-        },
-        WaitingRecord::Bound { handle, value } => Some(LentRecord::Bound { handle, value }),
-    }
-}
-
-/// A record that shares its attributes.
-fn shared(table: &mut SeriesTable, given: WaitingRecord) -> Option<PendingRecord>
-    ensures shared { IfSome result (λ p. p ≡ record_in table.old.series given) }
-    ensures none { IfNone result (¬ HasSeries (length table.old.series) given) }
-    ensures kept { table.new ≡ table.old }
-{
-    match given {
-        WaitingRecord::Plain { place, value } => {
-            let Some(series) = table.at(place) else {
-                return None;
-            };
-            let instrument = series.instrument;
-            let Some(attributes) = table.share(place) else {
-                return None;
-            };
-            Some(PendingRecord::Plain {
-                instrument,
-                value,
-                attributes,
-            })
-        }
-        WaitingRecord::Bound { handle, value } => Some(PendingRecord::Bound { handle, value }),
-    }
-}
-
 impl Waiting {
     /// A list without records, which knows no series and hashes them with this hasher. Takes no memory.
     pub(crate) fn new(alloc: Global, hasher: SetHashBuilder) -> Waiting
@@ -122,10 +82,17 @@ impl Waiting {
         ensures first { IfSome result (λ r. self.now.records ≡ lent_record r ∷ drop 1 self.now.records) }
         ensures none { IfNone result (self.now.records ≡ []) }
     {
-        let Some(first) = self.records.get(self.made) else {
-            return None;
-        };
-        lent(&self.table, *first)
+        match *self.records.get(self.made)? {
+            WaitingRecord::Plain { place, value } => {
+                let series = self.table.at(place)?;
+                Some(LentRecord::Plain {
+                    instrument: series.instrument,
+                    value,
+                    attributes: series.attributes.given(),
+                })
+            }
+            WaitingRecord::Bound { handle, value } => Some(LentRecord::Bound { handle, value }),
+        }
     }
 
     /// How many series there are.
@@ -198,21 +165,23 @@ impl Waiting {
         self.made += 1;
     }
 
-    /// Takes the first record that waits. Takes no memory.
-    pub(crate) fn take_first(&mut self) -> Option<PendingRecord>
-        ensures first { IfSome result (λ p. self.old.records ≡ p ∷ self.new.records) }
+    /// Takes the first record that waits, as the call that makes it. Takes no memory.
+    pub(crate) fn take_first(&mut self) -> Option<Call>
+        ensures first { IfSome result (λ call. map call_in self.old.records ≡ call_of call ∷ map call_in self.new.records) }
         ensures rest { self.new.records ≡ drop 1 self.old.records }
         ensures none { IfNone result (self.old.records ≡ []) }
         ensures kept { (self.new.emptied ≡ self.old.emptied) × (self.new.series ≡ self.old.series) × (self.new.room ≡ self.old.room) }
     {
-        let Some(first) = self.records.get(self.made) else {
-            return None;
-        };
-        let Some(taken) = shared(&mut self.table, *first) else {
-            return None;
-        };
+        let first = *self.records.get(self.made)?;
         self.made += 1;
-        Some(taken)
+        match first {
+            WaitingRecord::Plain { place, value } => Some(Call::Record {
+                instrument: self.table.at(place)?.instrument,
+                value,
+                attributes: self.table.share(place)?,
+            }),
+            WaitingRecord::Bound { handle, value } => Some(Call::RecordBound { handle, value }),
+        }
     }
 
     /// Lets the records that are made go, if no others wait, or else if they are more than those.
@@ -276,62 +245,17 @@ impl Waiting {
         }
     }
 
-    /// Adds a series that is new, and answers its place.
+    /// Adds a series that is new, and answers its place. May forget all others before.
+    #[inline(never)]
     fn learn(&mut self, instrument: usize, attributes: Vec<KeyValue>) -> Result<usize, Fault>
         requires { position (series_eq (series instrument attributes.items)) self.old.series ≡ None }
-        ensures added { OnOk result (self.new.series ≡ self.old.series ++ series instrument attributes.items ∷ []) }
-        ensures place { IfOk result (λ n. n ≡ length self.old.series) }
-        ensures unadded { OnErr result (self.new.series ≡ self.old.series) }
+        ensures placed { IfOk result (λ n. (n < length self.new.series) × (get_or self.new.series n (series 0 []) ≡ series instrument attributes.items)) }
         ensures only_memory { IsOkUnless result Fault.OutOfMemory }
-        ensures kept { (self.new.emptied ≡ self.old.emptied) × (self.new.records ≡ self.old.records) × (self.new.room ≡ self.old.room) }
-    {
-        self.table.add(instrument, attributes)
-    }
-
-    /// Adds a series that is new, and a record of it.
-    #[inline(never)]
-    fn add_new(
-        &mut self,
-        instrument: usize,
-        value: NumberValue,
-        attributes: Vec<KeyValue>,
-    ) -> Result<(), Fault>
-        requires { position (series_eq (series instrument attributes.items)) self.old.series ≡ None }
-        ensures added { OnOk result (self.new.records ≡ self.old.records ++ PendingRecord.Plain instrument value attributes.items ∷ []) }
-        ensures unadded { OnErr result (self.new.records ≡ self.old.records) }
-        ensures only_memory { IsOkUnless result Fault.OutOfMemory }
-        ensures room { self.old.room ≤ self.new.room + 1 }
-        ensures learnt { OnOk result (Contains self.new.series (series instrument attributes.items)) }
+        ensures kept { (self.new.records ≡ self.old.records) × (self.old.room ≤ self.new.room) }
         ensures series { KeepsSeries self.old self.new }
     {
         self.forget_many();
-        let place = self.learn(instrument, attributes)?;
-        self.add_placed(place, value)
-    }
-
-    /// Where the series of an instrument and a list stands.
-    #[inline(always)]
-    fn place_of(&self, instrument: usize, attributes: &[KeyValue]) -> Option<usize>
-        ensures there { IfSome result (λ n. (n < length self.now.series) × (get_or self.now.series n (series 0 []) ≡ series instrument attributes.now)) }
-        ensures known { OnSome result (Contains self.now.series (series instrument attributes.now)) }
-        ensures none { IfNone result (position (series_eq (series instrument attributes.now)) self.now.series ≡ None) }
-        ensures unknown { IfNone result (¬ Contains self.now.series (series instrument attributes.now)) }
-    {
-        self.table.find(instrument, attributes)
-    }
-
-    /// Adds a record of a series at a place.
-    #[inline(always)]
-    fn add_placed(&mut self, place: usize, value: NumberValue) -> Result<(), Fault>
-        requires { place < length self.old.series }
-        ensures added { OnOk result (self.new.records ≡ self.old.records ++ record_at self.old.series place value ∷ []) }
-        ensures unadded { OnErr result (self.new.records ≡ self.old.records) }
-        ensures only_memory { IsOkUnless result Fault.OutOfMemory }
-        ensures succeeds { 0 < self.old.room → IsOk result }
-        ensures room { self.old.room ≤ self.new.room + 1 }
-        ensures kept { (self.new.emptied ≡ self.old.emptied) × (self.new.series ≡ self.old.series) }
-    {
-        self.push(WaitingRecord::Plain { place, value })
+        self.table.add(instrument, attributes)
     }
 
     /// Adds a record with a list of its own.
@@ -349,9 +273,12 @@ impl Waiting {
         ensures learnt { OnOk result (Contains self.new.series (series instrument attributes.items)) }
         ensures series { KeepsSeries self.old self.new }
     {
-        match self.place_of(instrument, &attributes) {
-            Some(place) => self.add_placed(place, value),
-            None => self.add_new(instrument, value, attributes),
+        match self.table.find(instrument, &attributes) {
+            Some(place) => self.push(WaitingRecord::Plain { place, value }),
+            None => {
+                let place = self.learn(instrument, attributes)?;
+                self.push(WaitingRecord::Plain { place, value })
+            }
         }
     }
 
@@ -371,13 +298,8 @@ impl Waiting {
         ensures learnt { OnOk result (Contains self.new.series (series instrument attributes.now)) }
         ensures series { KeepsSeries self.old self.new }
     {
-        match self.place_of(instrument, attributes) {
-            Some(place) => self.add_placed(place, value),
-            None => {
-                let copied = Vec::from_clones(self.table.allocator(), attributes)?;
-                self.add_new(instrument, value, copied)
-            }
-        }
+        let place = self.placed(instrument, attributes)?;
+        self.push(WaitingRecord::Plain { place, value })
     }
 
     /// Adds a record through a handle.
@@ -394,35 +316,25 @@ impl Waiting {
     }
 
     /// The place of the series of an instrument and a list, which is copied if the series is new.
+    #[inline(always)]
     pub(crate) fn placed(
         &mut self,
         instrument: usize,
         attributes: &[KeyValue],
     ) -> Result<usize, Fault>
-        ensures placed { IfOk result (λ n. slice_get self.new.series n ≡ Some (series instrument attributes.now)) }
+        ensures placed { IfOk result (λ n. (n < length self.new.series) × (get_or self.new.series n (series 0 []) ≡ series instrument attributes.now)) }
         ensures only_memory { IsOkUnless result Fault.OutOfMemory }
         ensures known { Contains self.old.series (series instrument attributes.now) → IsOk result }
         ensures kept { (self.new.records ≡ self.old.records) × (self.old.room ≤ self.new.room) }
         ensures series { KeepsSeries self.old self.new }
     {
-        match self.place_of(instrument, attributes) {
+        match self.table.find(instrument, attributes) {
             Some(place) => Ok(place),
-            None => self.learn_copy(instrument, attributes),
+            None => {
+                let copied = Vec::from_clones(self.table.allocator(), attributes)?;
+                self.learn(instrument, copied)
+            }
         }
-    }
-
-    /// Adds a series that is new, with a copy of its list, and answers its place.
-    #[inline(never)]
-    fn learn_copy(&mut self, instrument: usize, attributes: &[KeyValue]) -> Result<usize, Fault>
-        requires { position (series_eq (series instrument attributes.now)) self.old.series ≡ None }
-        ensures placed { IfOk result (λ n. slice_get self.new.series n ≡ Some (series instrument attributes.now)) }
-        ensures only_memory { IsOkUnless result Fault.OutOfMemory }
-        ensures kept { (self.new.records ≡ self.old.records) × (self.old.room ≤ self.new.room) }
-        ensures series { KeepsSeries self.old self.new }
-    {
-        let copied = Vec::from_clones(self.table.allocator(), attributes)?;
-        self.forget_many();
-        self.learn(instrument, copied)
     }
 
     /// How often the worker forgot all series.
@@ -452,6 +364,6 @@ impl Waiting {
         if emptied != self.table.emptied() || place >= self.table.len() {
             return Err(Fault::UnknownHandle);
         }
-        self.add_placed(place, value)
+        self.push(WaitingRecord::Plain { place, value })
     }
 }
