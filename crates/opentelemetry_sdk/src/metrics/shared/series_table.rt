@@ -55,11 +55,6 @@ impl SeriesTable {
         }
     }
 
-    /// The allocator.
-    pub(crate) fn allocator(&self) -> Global {
-        *self.series.allocator()
-    }
-
     /// How often all series were let go.
     #[inline(always)]
     pub(crate) fn emptied(&self) -> u64
@@ -144,7 +139,7 @@ impl SeriesTable {
     {
         if let Some(emptied) = self.emptied.checked_add(1) {
             self.emptied = emptied;
-            self.series = IndexMap::with_hasher(self.allocator(), *self.series.hasher());
+            self.series = IndexMap::with_hasher(*self.series.allocator(), *self.series.hasher());
         }
     }
 }
