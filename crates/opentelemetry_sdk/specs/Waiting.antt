@@ -1,6 +1,5 @@
 -- The records that wait at a worker.
 use Rattle.std.specs.Prelude.{◌≡◌, ℕ, ◌<◌, ◌≤◌, ◌+◌, ◌++◌, ◌⊎◌, ◌==◌, ⊤, List, [], Option, None, cond, length, get_or, slice_get}
-use Rattle.otel_data.specs.declared.numbers.NumberValue.{NumberValue}
 use Rattle.opentelemetry_sdk.specs.Series.{series}
 use Rattle.opentelemetry_sdk.specs.declared.metrics.shared.pending.LentRecord.{LentRecord}
 use Rattle.opentelemetry_sdk.specs.declared.metrics.shared.pending.LentRecord.TheVariants as lent

@@ -11,7 +11,7 @@ ghost use Rattle.opentelemetry_sdk.specs.declared.metrics.shared.worker.WorkerSe
 
 use crate::calls::Call;
 use crate::metrics::shared::account::Account;
-use crate::metrics::shared::pending::PendingRecord;
+use crate::metrics::shared::pending::{PendingRecord, WaitingRecord};
 use crate::metrics::shared::worker::{Worker, WorkerSeries};
 use crate::values::bound::Bound;
 use crate::values::synchronous::{Adds, Records, Synchronous};
@@ -60,7 +60,7 @@ impl<C: Account, S: Account> Worker<C, S> {
         ensures room { room_of self.old ≤ room_of self.new + 1 }
         ensures series { KeepsSeries (waits_of self.old) (waits_of self.new) }
     {
-        self.waiting.add_bound(handle, value)
+        self.waiting.push(WaitingRecord::Bound { handle, value })
     }
 
     /// Makes room for this many more records. Refused only for want of memory; it changes nothing else.

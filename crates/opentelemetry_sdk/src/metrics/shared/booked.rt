@@ -319,7 +319,7 @@ impl<C: Account, S: Account> Booked<C, S> {
     }
 
     /// Makes one record and enters it in a worker's share, unless records of that worker wait.
-    #[tactic(auto, using(crate::proofs::Lists::alone_refused, crate::proofs::Lists::alone_full))]
+    #[tactic(auto, using(crate::proofs::Lists::stops_refused, crate::proofs::Lists::stops_full))]
     pub(crate) fn record(
         &mut self,
         worker: &mut Worker<C, S>,

@@ -55,11 +55,6 @@ impl SeriesTable {
         }
     }
 
-    /// The allocator.
-    pub(crate) fn allocator(&self) -> Global {
-        *self.series.allocator()
-    }
-
     /// How often all series were let go.
     #[inline(always)]
     pub(crate) fn emptied(&self) -> u64
@@ -92,10 +87,8 @@ impl SeriesTable {
     pub(crate) fn at(&self, place: usize) -> Option<&Series>
         ensures { option_copied result ≡ slice_get self.now.series place }
     {
-        match self.series.get_index(place) {
-            Some((series, _)) => Some(series),
-            None => None,
-        }
+        let (series, _) = self.series.get_index(place)?;
+        Some(series)
     }
 
     /// Another owner of the list of the series at a place. Takes no memory.
@@ -104,9 +97,7 @@ impl SeriesTable {
         ensures none { IfNone result (slice_get self.old.series place ≡ None) }
         ensures kept { self.new ≡ self.old }
     {
-        let Some(list) = self.series.get_index_mut(place) else {
-            return None;
-        };
+        let list = self.series.get_index_mut(place)?;
         Some(list.share())
     }
 
@@ -144,7 +135,7 @@ impl SeriesTable {
     {
         if let Some(emptied) = self.emptied.checked_add(1) {
             self.emptied = emptied;
-            self.series = IndexMap::with_hasher(self.allocator(), *self.series.hasher());
+            self.series = IndexMap::with_hasher(*self.series.allocator(), *self.series.hasher());
         }
     }
 }

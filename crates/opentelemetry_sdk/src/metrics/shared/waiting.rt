@@ -212,7 +212,7 @@ impl Waiting {
 
     /// Puts a record at the end.
     #[inline(always)]
-    fn push(&mut self, given: WaitingRecord) -> Result<(), Fault>
+    pub(crate) fn push(&mut self, given: WaitingRecord) -> Result<(), Fault>
         requires { HasSeries (length self.old.series) given }
         ensures added { OnOk result (self.new.records ≡ self.old.records ++ record_in self.old.series given ∷ []) }
         ensures unadded { OnErr result (self.new.records ≡ self.old.records) }
@@ -302,19 +302,6 @@ impl Waiting {
         self.push(WaitingRecord::Plain { place, value })
     }
 
-    /// Adds a record through a handle.
-    #[inline]
-    pub(crate) fn add_bound(&mut self, handle: u64, value: NumberValue) -> Result<(), Fault>
-        ensures added { OnOk result (self.new.records ≡ self.old.records ++ PendingRecord.Bound handle value ∷ []) }
-        ensures unadded { OnErr result (self.new.records ≡ self.old.records) }
-        ensures only_memory { IsOkUnless result Fault.OutOfMemory }
-        ensures known { 0 < self.old.room → IsOk result }
-        ensures room { self.old.room ≤ self.new.room + 1 }
-        ensures series { KeepsSeries self.old self.new }
-    {
-        self.push(WaitingRecord::Bound { handle, value })
-    }
-
     /// The place of the series of an instrument and a list, which is copied if the series is new.
     #[inline(always)]
     pub(crate) fn placed(
@@ -331,7 +318,7 @@ impl Waiting {
         match self.table.find(instrument, attributes) {
             Some(place) => Ok(place),
             None => {
-                let copied = Vec::from_clones(self.table.allocator(), attributes)?;
+                let copied = Vec::from_clones(*self.records.allocator(), attributes)?;
                 self.learn(instrument, copied)
             }
         }
