@@ -12,7 +12,6 @@ pub mod KnownRuns
 pub mod Lists
 pub mod Mapped
 pub mod Marks
-pub mod Outcomes
 pub mod Reached
 pub mod Runs
 pub mod Scopes

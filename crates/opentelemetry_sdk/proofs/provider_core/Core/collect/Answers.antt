@@ -12,7 +12,7 @@ use Rattle.opentelemetry_sdk.specs.Cores.{state_in}
 use Rattle.opentelemetry_sdk.specs.Correspondence.{fault_of, observed_of, reply_from}
 use Rattle.opentelemetry_sdk.specs.States.{CoreContents, IsFault, IsTaken}
 use Rattle.opentelemetry_sdk.proofs.Collects.{get-at, no-reader, shut-reader, by-observations, collect-step, set-seen, set-unseen}
-use Rattle.opentelemetry_sdk.proofs.Outcomes.{OnOk-weaker, OnErr-weaker}
+use Rattle.std.proofs.lemmas.Result.{on_ok_weaker, on_err_weaker}
 use Rattle.opentelemetry_sdk.proofs.Sound.{sound-step}
 use Rattle.opentelemetry_sdk.proofs.Stepped.{named-step, refused-step}
 use Rattle.opentelemetry_sdk.proofs.Typed.{typed-observed, observable-observed}
@@ -66,10 +66,10 @@ good : (c : After-collect) → observations_refusal c.self.inside.instruments.it
 good c = ap (λ is. observations_refusal is (map observed_of c.args.observations.now)) (sym c.deref.ensures.value) ∙ c.in_default.ensures.fits
 
 left : (c : After-collect) → OnOk c.collect.result (map part_of (set c.self.inside.pipelines.items c.args.reader c.collect.new.self) ≡ changed_at c.args.reader (part_after_call 0 (model.Call.Collect c.args.reader c.args.now (map observed_of c.args.observations.now))) (map part_of c.self.inside.pipelines.items))
-left c = OnOk-weaker c.collect.result (λ all. set-seen _ c.self.inside.pipelines.items c.args.reader c.index_mut.result.now c.collect.new.self (at c) (all c.args.reader)) c.collect.ensures.ok
+left c = on_ok_weaker c.collect.result (λ all. set-seen _ c.self.inside.pipelines.items c.args.reader c.index_mut.result.now c.collect.new.self (at c) (all c.args.reader)) c.collect.ensures.ok
 
 same : (c : After-collect) → OnErr c.collect.result (map part_of (set c.self.inside.pipelines.items c.args.reader c.collect.new.self) ≡ map part_of c.self.inside.pipelines.items)
-same c = OnErr-weaker c.collect.result (λ unmade. set-unseen c.self.inside.pipelines.items c.args.reader c.index_mut.result.now c.collect.new.self (at c) unmade) c.collect.ensures.err
+same c = on_err_weaker c.collect.result (λ unmade. set-unseen c.self.inside.pipelines.items c.args.reader c.index_mut.result.now c.collect.new.self (at c) unmade) c.collect.ensures.err
 
 pub invariant_of-self : goal.invariant_of-self
 invariant_of-self c =
