@@ -1,5 +1,4 @@
 pub mod Collections
-pub mod Defaults
 pub mod Handles
 pub mod Identities
 pub mod Observations

@@ -33,19 +33,8 @@ fn lowered_text(alloc: Global, text: &StringValue) -> Result<StringValue, Fault>
     Ok(lowered.into())
 }
 
-/// The text, or an empty one if there is none.
-pub(crate) fn text_or_empty(alloc: Global, text: &Option<StringValue>) -> Result<StringValue, Fault>
-    ensures text { IfOk result (λ t. t ≡ or_else text.now []) }
-    ensures only_memory { IsOkUnless result Fault.OutOfMemory }
-{
-    match text {
-        Some(text) => Ok(text.clone()?),
-        None => Ok(String::new(alloc).into()),
-    }
-}
-
 /// The first text, or else the second, or else an empty one.
-fn text_or(
+pub(crate) fn text_or(
     alloc: Global,
     first: &Option<StringValue>,
     second: &Option<StringValue>,
@@ -53,9 +42,9 @@ fn text_or(
     ensures text { IfOk result (λ t. t ≡ or_else first.now (or_else second.now [])) }
     ensures only_memory { IsOkUnless result Fault.OutOfMemory }
 {
-    match first {
-        Some(text) => Ok(text.clone()?),
-        None => text_or_empty(alloc, second),
+    match (first, second) {
+        (Some(text), _) | (None, Some(text)) => Ok(text.clone()?),
+        (None, None) => Ok(String::new(alloc).into()),
     }
 }
 

@@ -6,7 +6,7 @@ ghost use Rattle.otel_model.specs.Demands.{instrument_of};
 ghost use Rattle.opentelemetry_sdk.specs.States.{AreAsked};
 
 use crate::pipeline::about::About;
-use crate::pipeline::demands::text_or_empty;
+use crate::pipeline::demands::text_or;
 use otel_common::faults::Fault;
 use otel_common::laws::copied_scope;
 use otel_common::scopes::InstrumentationScope;
@@ -27,9 +27,9 @@ fn seen_by_views(
     copied_scope();
     Ok(Instrument {
         name: about.name.clone()?,
-        description: text_or_empty(alloc, about.description)?,
+        description: text_or(alloc, about.description, &None)?,
         kind: about.kind,
-        unit: text_or_empty(alloc, about.unit)?,
+        unit: text_or(alloc, about.unit, &None)?,
         scope: scope.clone()?,
     })
 }
