@@ -1,6 +1,5 @@
 pub mod Collections
 pub mod Handles
-pub mod Identities
 pub mod Observations
 pub mod Pipelines
 pub mod Streams

@@ -7,10 +7,9 @@ use Rattle.otel_common.specs.declared.metrics.Aggregation.TheVariants.{Default, 
 use Rattle.otel_common.specs.declared.scopes.InstrumentationScope.{InstrumentationScope}
 use Rattle.otel_model.specs.Calls.{About, InstrumentKind, Counter, Histogram, or_else}
 use Rattle.otel_model.specs.Demands.{Demand, ReaderAnswers, StreamSpec, answer_for, default_limit, demand_of, are_good_bounds, is_valid, fits, kind_default, default_from, reader_default, with_own, resolved_aggregation}
-use Rattle.opentelemetry_sdk.specs.pipeline.Identities.{identity_with}
 
 -- a demand of these five parts
-pub demand_made : (answers : ReaderAnswers) (scope : InstrumentationScope) (about : About) (s : StreamSpec) (d : Demand) → d.identity ≡ identity_with scope about s → d.spelling ≡ or_else s.name about.name → d.aggregation ≡ resolved_aggregation answers about s.aggregation → d.allow ≡ s.allow
+pub demand_made : (answers : ReaderAnswers) (scope : InstrumentationScope) (about : About) (s : StreamSpec) (d : Demand) → d.identity ≡ (demand_of answers scope about s).identity → d.spelling ≡ or_else s.name about.name → d.aggregation ≡ resolved_aggregation answers about s.aggregation → d.allow ≡ s.allow
     → d.limit ≡ or_else s.limit (or_else (answer_for answers about.kind).limit default_limit) → d ≡ demand_of answers scope about s
 demand_made answers scope about s d identity spelling aggregation allow limit = λ i. record {
   identity = identity i;
