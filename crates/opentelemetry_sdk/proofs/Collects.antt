@@ -48,7 +48,7 @@ module _ (old : State) (r now : ℕ) (os : List model.Observed) where
   shut-reader h closed = λ i. fault_by (lt-ltb r (length old.readers) h i) (closed i) (observations_refusal old.shared.instruments os)
 
   -- it was not, so what was observed decides
-  pub by-observations : r < length old.readers → old.shared.shut ≡ false → refusal old.shared (length old.readers) (model.Call.Collect r now os) ≡ observations_refusal old.shared.instruments os
+  by-observations : r < length old.readers → old.shared.shut ≡ false → refusal old.shared (length old.readers) (model.Call.Collect r now os) ≡ observations_refusal old.shared.instruments os
   by-observations h opened = λ i. fault_by (lt-ltb r (length old.readers) h i) (opened i) (observations_refusal old.shared.instruments os)
 
   -- a collection of a reader that is there, with good observations

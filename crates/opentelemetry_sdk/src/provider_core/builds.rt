@@ -125,11 +125,7 @@ impl Core {
         if identity != self.identity {
             return Err(Fault::UnknownMeter);
         }
-        let scope = match scope_of(&self.meters, meter) {
-            Ok(scope) => scope,
-            Err(fault) => return Err(fault),
-        };
-        let scope = good_scope(scope, about);
+        let scope = good_scope(scope_of(&self.meters, meter)?, about);
         let answered = ask_in(self.alloc, views, scope, about)?;
         make(
             &mut self.instruments,
