@@ -1,5 +1,6 @@
 -- A build sees what the views answer of its instrument, and no more.
 use Rattle.std.proofs.Common.{◌≡◌, ◌∙◌, ℕ, cond, List, [], ◌∷◌, ◌++◌, map, filter, fold, Option, Some, refl, sym, ap, subst}
+use Rattle.std.proofs.lemmas.Simd.{map-map}
 use Rattle.otel_common.specs.declared.scopes.InstrumentationScope.{InstrumentationScope}
 use Rattle.otel_model.specs.Calls.{About}
 use Rattle.otel_model.specs.Demands as model
@@ -25,13 +26,9 @@ built-answered views scope about now p =
     demanded_by vs = cond (model.is_good about) (filter is_compatible vs ++ cond (model.needs_own (model.is_dropped (fold machine.enter p.fates (filter is_compatible vs))) vs) (own_demand p.answers scope about ∷ []) []) []
 
 -- ======== the asking ========
-each-answer : {V : Type 0} (answer : V → Instrument → Option StreamSpec) (i : Instrument) (vs : List V) → map (λ (v : V). answer v i) vs ≡ map (λ (view : View). view i) (map answer vs)
-each-answer answer i [] = refl
-each-answer answer i (v ∷ vs) = ap (λ (rest : List (Option StreamSpec)). answer v i ∷ rest) (each-answer answer i vs)
-
 -- each view was asked for the instrument of the build
 pub asked-each : {V : Type 0} (answer : V → Instrument → Option StreamSpec) (vs : List V) (entry : Option InstrumentationScope) (scope : InstrumentationScope) (about : About) (i : Instrument) (answers : List (Option StreamSpec))
     → entry ≡ Some scope → i ≡ instrument_of scope about → answers ≡ map (λ (v : V). answer v i) vs → AreAsked (map answer vs) entry about answers
 asked-each {V} answer vs entry scope about i answers at seen each =
     subst (λ (e : Option InstrumentationScope). AreAsked (map answer vs) e about answers) (sym at)
-    (each ∙ (ap (λ (j : Instrument). map (λ (v : V). answer v j) vs) seen ∙ each-answer answer (instrument_of scope about) vs))
+    (each ∙ (ap (λ (j : Instrument). map (λ (v : V). answer v j) vs) seen ∙ sym (map-map (λ (view : View). view (instrument_of scope about)) answer vs)))

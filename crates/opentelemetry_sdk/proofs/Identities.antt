@@ -10,14 +10,7 @@ use Rattle.otel_model.proofs.Single.{step_cases}
 
 shared_identity : (s : Shared) (call : model.Call) → (shared_after s call).identity ≡ s.identity
 shared_identity s (model.Call.Meter scope) = refl
-shared_identity s (model.Call.Build meter about now) = refl
-shared_identity s (model.Call.Record n v l) = refl
-shared_identity s (model.Call.Bind n l) = refl
-shared_identity s (model.Call.RecordBound h v) = refl
-shared_identity s (model.Call.Unbind h) = refl
-shared_identity s (model.Call.Collect r now os) = refl
-shared_identity s model.Call.Flush = refl
-shared_identity s model.Call.Shutdown = refl
+shared_identity s call = refl
 
 after_identity : (views : Views) (st : State) (call : model.Call) → (after views st call).shared.identity ≡ st.shared.identity
 after_identity views st call = go (refusal st.shared (length st.readers) call)
@@ -35,6 +28,5 @@ step_identity views old call reply new step = ⊎_elim
 
 pub run_identity : (views : Views) (old : State) (calls : List model.Call) (replies : List model.Reply) (new : State) → Run views old calls replies new → new.shared.identity ≡ old.shared.identity
 run_identity views old [] [] new run = ap (λ (st : State). st.shared.identity) run
-run_identity views old [] (reply ∷ replies) new run = absurd run
-run_identity views old (call ∷ calls) [] new run = absurd run
 run_identity views old (call ∷ calls) (reply ∷ replies) new run = run_identity views run.0 calls replies new run.2 ∙ step_identity views old call reply run.0 run.1
+run_identity views old calls replies new run = absurd run

@@ -14,17 +14,15 @@ use Rattle.opentelemetry_sdk.specs.declared.calls.Reply.{Reply}
 -- a run in which each call that the state before it knows has memory
 abbrev pub KnownRun : Views → State → List Call → List Reply → State → Type 0
 KnownRun views old [] [] new = new ≡ old
-KnownRun views old [] (reply ∷ replies) new = ⊥
-KnownRun views old (call ∷ calls) [] new = ⊥
 KnownRun views old (call ∷ calls) (reply ∷ replies) new = (mid : State) × Step views old (call_of call) (reply_of reply) mid × (IsKnown old (call_of call) → HasMemory reply) × KnownRun views mid calls replies new
+KnownRun views old calls replies new = ⊥
 
 known-push : (views : Views) (calls : List Call) (replies : List Reply) (old mid new : State) (call : Call) (reply : Reply)
     → KnownRun views old calls replies mid → Step views mid (call_of call) (reply_of reply) new → (IsKnown mid (call_of call) → HasMemory reply) → KnownRun views old (calls ++ call ∷ []) (replies ++ reply ∷ []) new
 known-push views [] [] old mid new call reply run step known =
     (new, subst (λ st. Step views st (call_of call) (reply_of reply) new) run step, subst (λ st. IsKnown st (call_of call) → HasMemory reply) run known, refl)
-known-push views [] (r ∷ replies) old mid new call reply run step known = absurd run
-known-push views (c ∷ calls) [] old mid new call reply run step known = absurd run
 known-push views (c ∷ calls) (r ∷ replies) old mid new call reply run step known = (run.0, run.1, run.2, known-push views calls replies run.0 mid new call reply run.3 step known)
+known-push views calls replies old mid new call reply run step known = absurd run
 
 -- the calls so far and one more
 pub known-more : (views : Views) (calls : List Call) (i : ℕ) (call : Call) (replies more : List Reply) (old mid new : State) (reply : Reply) → i < length calls → call ≡ get_or calls i call → more ≡ replies ++ reply ∷ []
@@ -45,11 +43,10 @@ step-alike views old a b call reply s t = ⊎_elim
 known-between : (views : Views) (before later : List Call) (call : Call) (earlier next : List Reply) (reply : Reply) (old mid new : State)
     → KnownRun views old (before ++ call ∷ later) (earlier ++ reply ∷ next) new → Run views old (map call_of before) (map reply_of earlier) mid → IsKnown mid (call_of call) → HasMemory reply
 known-between views [] later call [] next reply old mid new run first known = run.2 (subst (λ st. IsKnown st (call_of call)) first known)
-known-between views [] later call (r ∷ earlier) next reply old mid new run first known = absurd first
-known-between views (c ∷ before) later call [] next reply old mid new run first known = absurd first
 known-between views (c ∷ before) later call (r ∷ earlier) next reply old mid new run first known =
     let same : first.0 ≡ run.0 = step-alike views old first.0 run.0 (call_of c) (reply_of r) first.1 run.1 in
     known-between views before later call earlier next reply run.0 mid new run.3 (subst (λ st. Run views st (map call_of before) (map reply_of earlier) mid) same first.2) known
+known-between views before later call earlier next reply old mid new run first known = absurd first
 
 pub each-known : (views : Views) (calls : List Call) (replies : List Reply) (old new : State) → KnownRun views old calls replies new → EachKnownHasMemory views old calls replies
 each-known views calls replies old new run before later call earlier next reply mid e f first =

@@ -1,7 +1,6 @@
 pub mod AcceptedSteps
 pub mod Asked
 pub mod Collects
-pub mod Fresh
 pub mod Full
 pub mod Headlines
 pub mod Held
@@ -10,12 +9,9 @@ pub mod Identities
 pub mod KeptRuns
 pub mod KnownRuns
 pub mod Lists
-pub mod Mapped
 pub mod Marks
-pub mod Outcomes
 pub mod Reached
 pub mod Runs
-pub mod Scopes
 pub mod SeriesLemmas
 pub mod Sound
 pub mod StepLemmas

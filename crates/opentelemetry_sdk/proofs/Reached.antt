@@ -73,54 +73,22 @@ after-shut (Some f) old new same = refl
 
 shut-after : (views : Views) (st : State) (call : model.Call) → (after views st call).shared.shut ≡ shut_after st.shared.shut call
 shut-after views st (model.Call.Meter scope) = refl
-shut-after views st (model.Call.Build meter about now) = after-shut (refusal st.shared (length st.readers) (model.Call.Build meter about now)) st (accepted_after views st (model.Call.Build meter about now)) refl
-shut-after views st (model.Call.Record n v l) = after-shut (refusal st.shared (length st.readers) (model.Call.Record n v l)) st (accepted_after views st (model.Call.Record n v l)) refl
-shut-after views st (model.Call.Bind n l) = after-shut (refusal st.shared (length st.readers) (model.Call.Bind n l)) st (accepted_after views st (model.Call.Bind n l)) refl
-shut-after views st (model.Call.RecordBound h v) = after-shut (refusal st.shared (length st.readers) (model.Call.RecordBound h v)) st (accepted_after views st (model.Call.RecordBound h v)) refl
-shut-after views st (model.Call.Unbind h) = after-shut (refusal st.shared (length st.readers) (model.Call.Unbind h)) st (accepted_after views st (model.Call.Unbind h)) refl
-shut-after views st (model.Call.Collect r now os) = after-shut (refusal st.shared (length st.readers) (model.Call.Collect r now os)) st (accepted_after views st (model.Call.Collect r now os)) refl
-shut-after views st model.Call.Flush = after-shut (refusal st.shared (length st.readers) model.Call.Flush) st (accepted_after views st model.Call.Flush) refl
 shut-after views st model.Call.Shutdown = by st.shared.shut refl
   where
     by : (b : Bool) → st.shared.shut ≡ b → (after_by (fault_by st.shared.shut) st (accepted_after views st model.Call.Shutdown)).shared.shut ≡ true
     by true e = ap (λ b. (after_by (fault_by b) st (accepted_after views st model.Call.Shutdown)).shared.shut) e ∙ e
     by false e = ap (λ b. (after_by (fault_by b) st (accepted_after views st model.Call.Shutdown)).shared.shut) e
+shut-after views st call = after-shut (refusal st.shared (length st.readers) call) st (accepted_after views st call) refl
 
 -- a call that takes memory shuts nothing down
 memory-shut : (call : model.Call) (shut : Bool) → IsTrue (steps.takes_memory call) → shut_after shut call ≡ shut
-memory-shut (model.Call.Meter scope) shut takes = refl
-memory-shut (model.Call.Build meter about now) shut takes = refl
-memory-shut (model.Call.Record n v l) shut takes = refl
-memory-shut (model.Call.Bind n l) shut takes = refl
-memory-shut (model.Call.RecordBound h v) shut takes = refl
-memory-shut (model.Call.Unbind h) shut takes = refl
-memory-shut (model.Call.Collect r now os) shut takes = refl
-memory-shut model.Call.Flush shut takes = refl
 memory-shut model.Call.Shutdown shut takes = absurd (true≢false (sym takes))
+memory-shut call shut takes = refl
 
 pub shut-step : (views : Views) (old new : State) (call : model.Call) (reply : model.Reply) → Step views old call reply new → new.shared.shut ≡ shut_after old.shared.shut call
-shut-step views old new call (model.Reply.Meter number) step = ap (λ (st : State). st.shared.shut) step.1 ∙ shut-after views old call
-shut-step views old new call (model.Reply.Instrument number) step = ap (λ (st : State). st.shared.shut) step.1 ∙ shut-after views old call
-shut-step views old new call (model.Reply.Handle number) step = ap (λ (st : State). st.shared.shut) step.1 ∙ shut-after views old call
-shut-step views old new call model.Reply.Done step = ap (λ (st : State). st.shared.shut) step.1 ∙ shut-after views old call
-shut-step views old new call (model.Reply.Collected c) step = ap (λ (st : State). st.shared.shut) step.1 ∙ shut-after views old call
-shut-step views old new call (model.Reply.Refused f) step = by f step
-  where
-    by : (f : model.Fault) → Step views old call (model.Reply.Refused f) new → new.shared.shut ≡ shut_after old.shared.shut call
-    by model.Fault.OutOfMemory s = ap (λ (st : State). st.shared.shut) s.2 ∙ sym (memory-shut call old.shared.shut s.0)
-    by (model.Fault.ReadersFailed failed first) s = ap (λ (st : State). st.shared.shut) s.2 ∙ shut-after views old call
-    by model.Fault.UnknownMeter s = ap (λ (st : State). st.shared.shut) s.1 ∙ shut-after views old call
-    by model.Fault.UnknownInstrument s = ap (λ (st : State). st.shared.shut) s.1 ∙ shut-after views old call
-    by model.Fault.UnknownHandle s = ap (λ (st : State). st.shared.shut) s.1 ∙ shut-after views old call
-    by model.Fault.UnknownReader s = ap (λ (st : State). st.shared.shut) s.1 ∙ shut-after views old call
-    by model.Fault.WrongNumber s = ap (λ (st : State). st.shared.shut) s.1 ∙ shut-after views old call
-    by model.Fault.WrongKind s = ap (λ (st : State). st.shared.shut) s.1 ∙ shut-after views old call
-    by model.Fault.AlreadyShutdown s = ap (λ (st : State). st.shared.shut) s.1 ∙ shut-after views old call
-    by model.Fault.ReaderShutDown s = ap (λ (st : State). st.shared.shut) s.1 ∙ shut-after views old call
-    by model.Fault.Exhausted s = ap (λ (st : State). st.shared.shut) s.1 ∙ shut-after views old call
-    by model.Fault.LedgerFull s = ap (λ (st : State). st.shared.shut) s.1 ∙ shut-after views old call
-    by model.Fault.UseWorker s = ap (λ (st : State). st.shared.shut) s.1 ∙ shut-after views old call
-    by model.Fault.WorkersMissing s = ap (λ (st : State). st.shared.shut) s.1 ∙ shut-after views old call
+shut-step views old new call (model.Reply.Refused model.Fault.OutOfMemory) step = ap (λ (st : State). st.shared.shut) step.2 ∙ sym (memory-shut call old.shared.shut step.0)
+shut-step views old new call (model.Reply.Refused (model.Fault.ReadersFailed failed first)) step = ap (λ (st : State). st.shared.shut) step.2 ∙ shut-after views old call
+shut-step views old new call reply step = ap (λ (st : State). st.shared.shut) step.1 ∙ shut-after views old call
 
 -- ======== a list of calls ========
 -- a call after others reaches the readers that they left
@@ -130,8 +98,6 @@ reaches-push : {R : Type 0} (flushes : R → R → Outcome → Type 0) (shuts : 
 reaches-push {R} flushes shuts views [] [] old mid before between after call reply run reaches step =
     let P : List R → Type 0 = λ rs. StepReaches flushes shuts old.shared.shut call rs reply after in
     (after, subst P reaches (subst (λ (st : State). StepReaches flushes shuts st.shared.shut call between reply after) run step), refl)
-reaches-push flushes shuts views [] (r ∷ replies) old mid before between after call reply run reaches step = absurd run
-reaches-push flushes shuts views (c ∷ calls) [] old mid before between after call reply run reaches step = absurd run
 reaches-push flushes shuts views (c ∷ calls) (r ∷ replies) old mid before between after call reply run reaches step =
     let next : State = run.0 in
     let same : next.shared.shut ≡ shut_after old.shared.shut c = shut-step views old next c r run.1 in (
@@ -140,6 +106,7 @@ reaches-push flushes shuts views (c ∷ calls) (r ∷ replies) old mid before be
       subst (λ b. RunReaches flushes shuts b (calls ++ call ∷ []) reaches.0 (replies ++ reply ∷ []) after) same
           (reaches-push flushes shuts views calls replies next mid reaches.0 between after call reply run.2 (subst (λ b. RunReaches flushes shuts b calls reaches.0 replies between) (sym same) reaches.2) step),
     )
+reaches-push flushes shuts views calls replies old mid before between after call reply run reaches step = absurd run
 
 -- the calls so far and one more
 pub reaches-more : {R : Type 0} (flushes : R → R → Outcome → Type 0) (shuts : R → ℕ → R → Outcome → Type 0) (views : Views) (calls : List Call) (i : ℕ) (call : Call) (replies more : List Reply) (old mid : State) (before between after : List R) (reply : Reply)
@@ -155,25 +122,18 @@ reaches-more flushes shuts views calls i call replies more old mid before betwee
 -- ======== calls that ask no readers ========
 step-unasked : {R : Type 0} (flushes : R → R → Outcome → Type 0) (shuts : R → ℕ → R → Outcome → Type 0) (shut : Bool) (call : model.Call) (before after : List R) (reply : model.Reply)
     → asks_readers call ≡ false → StepReaches flushes shuts shut call before reply after → after ≡ before
-step-unasked flushes shuts shut (model.Call.Meter scope) before after reply e same = same
-step-unasked flushes shuts shut (model.Call.Build meter about now) before after reply e same = same
-step-unasked flushes shuts shut (model.Call.Record n v l) before after reply e same = same
-step-unasked flushes shuts shut (model.Call.Bind n l) before after reply e same = same
-step-unasked flushes shuts shut (model.Call.RecordBound h v) before after reply e same = same
-step-unasked flushes shuts shut (model.Call.Unbind h) before after reply e same = same
-step-unasked flushes shuts shut (model.Call.Collect r now os) before after reply e same = same
 step-unasked flushes shuts shut model.Call.Flush before after reply e reached = absurd (true≢false e)
 step-unasked flushes shuts shut model.Call.Shutdown before after reply e reached = absurd (true≢false e)
+step-unasked flushes shuts shut call before after reply e same = same
 
 pub run-unasked : {R : Type 0} (flushes : R → R → Outcome → Type 0) (shuts : R → ℕ → R → Outcome → Type 0) (shut : Bool) (calls : List model.Call) (replies : List model.Reply) (before after : List R)
     → list_any asks_readers calls ≡ false → RunReaches flushes shuts shut calls before replies after → after ≡ before
 run-unasked flushes shuts shut [] [] before after none same = same
-run-unasked flushes shuts shut [] (r ∷ replies) before after none reaches = absurd reaches
-run-unasked flushes shuts shut (c ∷ calls) [] before after none reaches = absurd reaches
 run-unasked flushes shuts shut (c ∷ calls) (r ∷ replies) before after none reaches =
     let both = or_parts (asks_readers c) (list_any asks_readers calls) none in
     run-unasked flushes shuts (shut_after shut c) calls replies reaches.0 after both.1 reaches.2
     ∙ step-unasked flushes shuts shut c before reaches.0 r both.0 reaches.1
+run-unasked flushes shuts shut calls replies before after none reaches = absurd reaches
 
 -- whether a list of calls was made or not
 pub unasked : {R T : Type 0} (flushes : R → R → Outcome → Type 0) (shuts : R → ℕ → R → Outcome → Type 0) (shut : Bool) (r : Result T Fault) (calls : List model.Call) (replies : T → List model.Reply) (before after : List R)

@@ -12,9 +12,8 @@ use Rattle.opentelemetry_sdk.specs.declared.calls.Reply.{Reply}
 Run-push : (views : Views) (calls : List model.Call) (replies : List model.Reply) (old mid new : State) (call : model.Call) (reply : model.Reply)
     → Run views old calls replies mid → Step views mid call reply new → Run views old (calls ++ call ∷ []) (replies ++ reply ∷ []) new
 Run-push views [] [] old mid new call reply run step = (new, subst (λ st. Step views st call reply new) run step, refl)
-Run-push views [] (r ∷ replies) old mid new call reply run step = absurd run
-Run-push views (c ∷ calls) [] old mid new call reply run step = absurd run
 Run-push views (c ∷ calls) (r ∷ replies) old mid new call reply run step = (run.0, run.1, Run-push views calls replies run.0 mid new call reply run.2 step)
+Run-push views calls replies old mid new call reply run step = absurd run
 
 -- the calls so far and one more
 pub run-more : (views : Views) (calls : List Call) (i : ℕ) (call : Call) (replies more : List Reply) (old mid new : State) (reply : Reply) → i < length calls → call ≡ get_or calls i call → more ≡ replies ++ reply ∷ []

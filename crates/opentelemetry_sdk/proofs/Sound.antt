@@ -1,7 +1,7 @@
 -- What calls keep of a provider's state.
 use Rattle.std.proofs.Common.{⊎_elim, ℕ, zero, suc, List, [], ◌∷◌, map, length, Option, Some, None, refl, sym, subst}
 use Rattle.otel_model_stream.specs.Folds.{Amount}
-use Rattle.otel_model.specs.Calls.{Call, Meter, Build, Record, Bind, RecordBound, Unbind, Collect, Flush, Shutdown, Fault, Reply}
+use Rattle.otel_model.specs.Calls.{Call, Build, Record, Bind, RecordBound, Unbind, Collect, Fault, Reply}
 use Rattle.otel_model.specs.Demands.{ReaderAnswers, Views}
 use Rattle.otel_model.specs.Machine.{changed_at, accepted_after, accepted_by, new_part, new_state, part_after_call}
 use Rattle.otel_model.specs.Refusals.{refusal, instrument_held}
@@ -29,15 +29,13 @@ abbrev StaysTyped : State → Type 0
 StaysTyped st = AreTyped st.shared.instruments st.readers
 
 typed-accepted : (views : Views) (st : State) (call : Call) → StaysTyped st → StaysTyped (accepted_after views st call)
-typed-accepted views st (Meter scope) all = all
 typed-accepted views st (Build meter about now) all = typed-built views st.shared.instruments (scope_of st.shared.meters meter) about now st.readers all
 typed-accepted views st (Record n v l) all = typed-sent v.amount n st.shared.next (Record n v l) st.shared.instruments st.readers all
 typed-accepted views st (Bind n l) all = typed-kept st.shared.instruments st.shared.next (Bind n l) st.readers all
 typed-accepted views st (RecordBound h v) all = typed-held v.amount (instrument_held h st.shared.live) st.shared.next (RecordBound h v) st.shared.instruments st.readers all
 typed-accepted views st (Unbind h) all = typed-kept st.shared.instruments st.shared.next (Unbind h) st.readers all
 typed-accepted views st (Collect r now os) all = typed-changed st.shared.instruments st.shared.next r (Collect r now os) st.readers all
-typed-accepted views st Flush all = all
-typed-accepted views st Shutdown all = all
+typed-accepted views st call all = all
 
 typed-after : (views : Views) (st : State) (call : Call) → StaysTyped st → StaysTyped (after views st call)
 typed-after views st call all = go (refusal st.shared (length st.readers) call)

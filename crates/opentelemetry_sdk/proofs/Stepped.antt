@@ -33,11 +33,8 @@ refused-step views old new call fault.WrongNumber takes is same = named-step vie
 refused-step views old new call fault.WrongKind takes is same = named-step views old new call model.Fault.WrongKind is same
 refused-step views old new call fault.AlreadyShutdown takes is same = named-step views old new call model.Fault.AlreadyShutdown is same
 refused-step views old new call fault.Exhausted takes is same = named-step views old new call model.Fault.Exhausted is same
-refused-step views old new call fault.LedgerFull takes is same = absurd is
-refused-step views old new call fault.UseWorker takes is same = absurd is
-refused-step views old new call fault.WorkersMissing takes is same = absurd is
 refused-step views old new call (fault.InternalFailure inner.ReaderShutDown) takes is same = named-step views old new call model.Fault.ReaderShutDown is same
-refused-step views old new call (fault.InternalFailure (inner.Readers failed first)) takes is same = absurd is
+refused-step views old new call f takes is same = absurd is
 
 -- refused for want of memory
 pub memory-step : (views : Views) (old new : State) (call : model.Call) (f : Fault) → IsTrue (takes_memory call) → f ≡ fault.OutOfMemory → refusal old.shared (length old.readers) call ≡ None → new ≡ old

@@ -14,6 +14,7 @@ use Rattle.otel_model.specs.Sent.{is_fed}
 use Rattle.otel_model.specs.State.{InstrumentState, ReaderPart}
 use Rattle.otel_model.proofs.Gather.{identity_eq_true}
 use Rattle.otel_model.proofs.Feeding.{is_one, fed_demanded}
+use Rattle.otel_model.proofs.Amounts.{same_number}
 use Rattle.opentelemetry_sdk.specs.pipeline.Handles.{AreObservableFor}
 use Rattle.opentelemetry_sdk.specs.pipeline.Observations.{AreTypedFor}
 use Rattle.opentelemetry_sdk.specs.pipeline.Pipelines.{Piped, part_of}
@@ -116,16 +117,11 @@ signed-accepted v zero (suc n) (j ∷ is) i e = (i, e, refl, refl)
 signed-accepted v (suc m) zero (j ∷ is) i e = (i, e, refl, refl)
 signed-accepted v (suc m) (suc n) (j ∷ is) i e = signed-accepted v m n is i e
 
-length-accepted : (v : Amount) (m : ℕ) (is : List InstrumentState) → length (changed_at m (instrument_after_record v) is) ≡ length is
-length-accepted v m [] = refl
-length-accepted v zero (j ∷ is) = refl
-length-accepted v (suc m) (j ∷ is) = ap suc (length-accepted v m is)
-
 pub typed-sent : (v : Amount) (m next : ℕ) (c : Call) (is : List InstrumentState) (ps : List ReaderPart) → AreTyped is ps → AreTyped (changed_at m (instrument_after_record v) is) (map (part_after_call next c) ps)
 typed-sent v m next c is [] all = tt
 typed-sent v m next c is (p ∷ ps) all = (
   record {
-    as_many = all.0.as_many ∙ sym (length-accepted v m is);
+    as_many = all.0.as_many ∙ sym (same_number m (instrument_after_record v) is);
     types = λ n x i f g. let before = signed-accepted v m n is i g in all.0.types n x before.0 f before.1 ∙ before.2;
     kinds = λ n x i f g. let before = signed-accepted v m n is i g in all.0.kinds n x before.0 f before.1 ∙ before.3;
   },

@@ -32,15 +32,11 @@ kind_of I64ObservableGauge = model.ObservableGauge
 kind_of U64Histogram = model.Histogram
 
 abbrev pub is_signed : InstrumentSort → Bool
-is_signed U64Counter = false
-is_signed U64ObservableCounter = false
 is_signed I64UpDownCounter = true
 is_signed I64ObservableUpDownCounter = true
-is_signed U64Gauge = false
 is_signed I64Gauge = true
-is_signed U64ObservableGauge = false
 is_signed I64ObservableGauge = true
-is_signed U64Histogram = false
+is_signed sort = false
 
 abbrev pub about : InstrumentSort → List ℕ → Option (List ℕ) → Option (List ℕ) → Option (List ℤ) → model.About
 about sort name description unit bounds = record { kind = kind_of sort; signed = is_signed sort; name = name; description = description; unit = unit; bounds = bounds }

@@ -20,24 +20,13 @@ is_known n l st = list_all (is_known_at n l) st.readers
 
 -- the call is a record of such attributes
 abbrev pub IsKnown : State → model.Call → Type 0
-IsKnown st (model.Call.Meter scope) = ⊥
-IsKnown st (model.Call.Build meter about now) = ⊥
 IsKnown st (model.Call.Record n v l) = is_known n l st ≡ true
-IsKnown st (model.Call.Bind n l) = ⊥
-IsKnown st (model.Call.RecordBound h v) = ⊥
-IsKnown st (model.Call.Unbind h) = ⊥
-IsKnown st (model.Call.Collect r now os) = ⊥
-IsKnown st model.Call.Flush = ⊥
-IsKnown st model.Call.Shutdown = ⊥
+IsKnown st call = ⊥
 
 -- the call was not refused for lack of memory
 abbrev pub HasMemory : Reply → Type 0
-HasMemory (reply.Meter number) = Unit {0}
-HasMemory (reply.Instrument number) = Unit {0}
-HasMemory (reply.Handle number) = Unit {0}
-HasMemory reply.Done = Unit {0}
-HasMemory (reply.Collected collection) = Unit {0}
 HasMemory (reply.Refused f) = IsNamed f
+HasMemory r = Unit {0}
 
 -- no call of a list that is known to the state before it was refused for lack of memory: wherever the list is split at a
 -- call, and its replies at one, and those before are a run to a state that knows the call

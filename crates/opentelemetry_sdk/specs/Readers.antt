@@ -1,7 +1,7 @@
 -- What calls do to a provider's readers (Metrics SDK, "ForceFlush", "Shutdown").
 use Rattle.std.specs.Prelude.{◌≡◌, ℕ, Bool, true, false, List, [], ◌∷◌, Err}
 use Rattle.otel_common.specs.declared.faults.Fault.TheVariants.{AlreadyShutdown}
-use Rattle.otel_model.specs.Calls.{Call, Reply, Meter, Build, Record, Bind, RecordBound, Unbind, Collect, Flush, Shutdown}
+use Rattle.otel_model.specs.Calls.{Call, Reply, Flush, Shutdown}
 use Rattle.otel_stream.specs.Requests.{Outcome, AllAsked, default_timeout}
 use Rattle.opentelemetry_sdk.specs.Correspondence.{reply_to}
 
@@ -21,31 +21,17 @@ AreReachedBy does shut before reply after = (outcome : Outcome) × (reply ≡ re
 -- one call of a provider, where `shut` says whether it was already shut down: a flush or a shutdown reaches the
 -- readers, and any other call leaves them as they were
 abbrev pub StepReaches : {R : Type 0} → (R → R → Outcome → Type 0) → (R → ℕ → R → Outcome → Type 0) → Bool → Call → List R → Reply → List R → Type 0
-StepReaches flushes shuts shut (Meter scope) before reply after = after ≡ before
-StepReaches flushes shuts shut (Build meter about now) before reply after = after ≡ before
-StepReaches flushes shuts shut (Record n v l) before reply after = after ≡ before
-StepReaches flushes shuts shut (Bind n l) before reply after = after ≡ before
-StepReaches flushes shuts shut (RecordBound h v) before reply after = after ≡ before
-StepReaches flushes shuts shut (Unbind h) before reply after = after ≡ before
-StepReaches flushes shuts shut (Collect r now os) before reply after = after ≡ before
 StepReaches flushes shuts shut Flush before reply after = AreReachedBy flushes shut before reply after
 StepReaches flushes shuts shut Shutdown before reply after = AreReachedBy (ShutsDown shuts) shut before reply after
+StepReaches flushes shuts shut call before reply after = after ≡ before
 
 -- whether a provider is shut down after a call, given whether it was before
 abbrev pub shut_after : Bool → Call → Bool
-shut_after shut (Meter scope) = shut
-shut_after shut (Build meter about now) = shut
-shut_after shut (Record n v l) = shut
-shut_after shut (Bind n l) = shut
-shut_after shut (RecordBound h v) = shut
-shut_after shut (Unbind h) = shut
-shut_after shut (Collect r now os) = shut
-shut_after shut Flush = shut
 shut_after shut Shutdown = true
+shut_after shut call = shut
 
 -- a list of calls, each of which finds the readers as the call before left them
 abbrev pub RunReaches : {R : Type 0} → (R → R → Outcome → Type 0) → (R → ℕ → R → Outcome → Type 0) → Bool → List Call → List R → List Reply → List R → Type 0
 RunReaches flushes shuts shut [] before [] after = after ≡ before
-RunReaches flushes shuts shut [] before (reply ∷ replies) after = ⊥
-RunReaches flushes shuts shut (call ∷ calls) before [] after = ⊥
 RunReaches {R} flushes shuts shut (call ∷ calls) before (reply ∷ replies) after = (between : List R) × StepReaches flushes shuts shut call before reply between × RunReaches flushes shuts (shut_after shut call) calls between replies after
+RunReaches flushes shuts shut calls before replies after = ⊥

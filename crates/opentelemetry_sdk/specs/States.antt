@@ -27,27 +27,13 @@ IsFault o fault.WrongNumber = o ≡ Some model.Fault.WrongNumber
 IsFault o fault.WrongKind = o ≡ Some model.Fault.WrongKind
 IsFault o fault.AlreadyShutdown = o ≡ Some model.Fault.AlreadyShutdown
 IsFault o fault.Exhausted = o ≡ Some model.Fault.Exhausted
-IsFault o fault.LedgerFull = ⊥
-IsFault o fault.UseWorker = ⊥
-IsFault o fault.WorkersMissing = ⊥
 IsFault o (fault.InternalFailure inner.ReaderShutDown) = o ≡ Some model.Fault.ReaderShutDown
-IsFault o (fault.InternalFailure (inner.Readers failed first)) = ⊥
+IsFault o f = ⊥
 
 -- a fault other than out of memory
 abbrev pub IsNamed : Fault → Type 0
 IsNamed fault.OutOfMemory = ⊥
-IsNamed fault.UnknownMeter = Unit {0}
-IsNamed fault.UnknownInstrument = Unit {0}
-IsNamed fault.UnknownHandle = Unit {0}
-IsNamed fault.UnknownReader = Unit {0}
-IsNamed fault.WrongNumber = Unit {0}
-IsNamed fault.WrongKind = Unit {0}
-IsNamed fault.AlreadyShutdown = Unit {0}
-IsNamed fault.Exhausted = Unit {0}
-IsNamed fault.LedgerFull = Unit {0}
-IsNamed fault.UseWorker = Unit {0}
-IsNamed fault.WorkersMissing = Unit {0}
-IsNamed (fault.InternalFailure f) = Unit {0}
+IsNamed f = Unit {0}
 
 -- ======== cores ========
 -- the core of a provider: the provider's state, the seed from which builds have sets hashed, and that from which each

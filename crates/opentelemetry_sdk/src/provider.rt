@@ -1,6 +1,6 @@
 //! The provider and its builder.
 
-ghost use Rattle.std.specs.Prelude.{◌≡◌, ◌++◌, ◌∷◌, [], false, true, List, Option, None, Some, Result, map, IfOk, OnErr, IsOkAnd, IsOkUnless};
+ghost use Rattle.std.specs.Prelude.{◌≡◌, ◌++◌, ◌∷◌, [], false, true, List, None, Some, Result, map, IfOk, OnErr, IsOkAnd, IsOkUnless};
 ghost use Rattle.std.specs.List.{list_any};
 ghost use Rattle.otel_stream.specs.Runs.{Ran, RanAll};
 ghost use Rattle.otel_stream.specs.declared.observation.Observed.{Observed};
@@ -16,7 +16,7 @@ ghost use Rattle.otel_model.specs.Lawful.{Balances, IsLawful};
 ghost use Rattle.opentelemetry_sdk.specs.Checks.{collect_refusal};
 ghost use Rattle.opentelemetry_sdk.specs.Callbacks.{IsCollectionOf, IsCollected};
 ghost use Rattle.opentelemetry_sdk.specs.Headline.{OfReaders, OfStreams, OfAnswers, InAnyOrder};
-ghost use Rattle.opentelemetry_sdk.specs.Providers.{state_of, identity_of, resource_of, identity_of_builder, fixed_hash_seed, hash_seed_of, hash_seed_of_builder, answers_of_readers, views_of, builder_readers, builder_views, provider_readers, provider_views, callbacks_of, wants_of};
+ghost use Rattle.opentelemetry_sdk.specs.Providers.{state_of, resource_of, identity_of_builder, fixed_hash_seed, hash_seed_of, hash_seed_of_builder, answers_of_readers, views_of, builder_readers, builder_views, provider_readers, provider_views, callbacks_of, wants_of};
 ghost use Rattle.opentelemetry_sdk.specs.Correspondence.{call_of, reply_of, reply_to};
 ghost use Rattle.opentelemetry_sdk.specs.Known.{IsKnown, HasMemory, EachKnownHasMemory};
 ghost use Rattle.opentelemetry_sdk.specs.Readers.{AreReached, ShutsDown, StepReaches, RunReaches};
@@ -31,7 +31,6 @@ use otel_aggregate::value_map::hashing::SetHashBuilder;
 use otel_common::faults::{Fault, OTelSdkResult};
 use otel_common::resource::Resource;
 use otel_data::collections::ResourceMetrics;
-use otel_stream::reader::MetricReader;
 use otel_stream::registered::{Registered, run_callbacks};
 use std::alloc::Global;
 use std::time::Duration;
@@ -256,18 +255,7 @@ impl<P: Parts> Provider<P> {
         ensures views { provider_views result ≡ [] }
         ensures callbacks { callbacks_of result ≡ [] }
     {
-        Provider {
-            core: Core::new(
-                alloc,
-                SetHashBuilder::default(),
-                Resource::builder_empty(alloc).build(),
-                0,
-                NewReaders::new(alloc),
-            ),
-            views: Vec::new(alloc),
-            readers: Vec::new(alloc),
-            callbacks: Vec::new(alloc),
-        }
+        Provider::builder(alloc).build().unwrap()
     }
 
     /// The readers, in the order in which they were added.
@@ -432,13 +420,8 @@ impl<P: Parts> Provider<P> {
         ensures kept { provider_readers self.new ≡ provider_readers self.old }
         ensures views { provider_views self.new ≡ provider_views self.old }
     {
-        match self.collected(reader, now) {
-            Ok(collected) => {
-                *metrics = collected;
-                Ok(())
-            }
-            Err(fault) => Err(fault),
-        }
+        *metrics = self.collected(reader, now)?;
+        Ok(())
     }
 
     /// Asks each reader to flush, in order, including those after one that failed (Metrics SDK, "ForceFlush"). The same

@@ -48,8 +48,6 @@ next_stream : (x : Identity) (k : StreamContents) (ks : List StreamContents) (b 
     → ((m : ℕ) → o ≡ Some m → IsStreamOf x ks m) → cond b (Some 0) (option_map suc o) ≡ Some n → IsStreamOf x (k ∷ ks) n
 next_stream x k ks true o zero t rest e =
     record { held = k; at = refl; is = identity_eq_true x (identity_of k) t; drops = ap (λ b. model.is_drop_fate (cond b (Some k.stream.demand) (model.fate_of (fates_of ks) x))) (test-flip x (identity_of k) ∙ t) }
-next_stream x k ks true o (suc n) t rest e = absurd (cc)
-next_stream x k ks false None n t rest e = absurd (cc)
 next_stream x k ks false (Some m) n t rest e =
     let q : suc m ≡ n = cc in
     let r = rest m refl in
@@ -59,6 +57,7 @@ next_stream x k ks false (Some m) n t rest e =
       is = r.is;
       drops = ap (λ b. model.is_drop_fate (cond b (Some k.stream.demand) (model.fate_of (fates_of ks) x))) (test-flip x (identity_of k) ∙ t) ∙ r.drops;
     })
+next_stream x k ks b o n t rest e = absurd (cc)
 
 pub found : (x : Identity) (ks : List StreamContents) (n : ℕ) → stream_number x (stream_identities ks) ≡ Some n → IsStreamOf x ks n
 found x [] n e = absurd (cc)

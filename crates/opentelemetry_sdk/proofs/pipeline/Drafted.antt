@@ -101,9 +101,8 @@ observable-same (h ∷ a) (m ∷ b) (suc n) e is k at = let rest : all_without_p
 
 -- ======== streams ========
 pub none-drafted : (n : ℕ) (ks : List StreamContents) → drafted_all (replicate n None) ks ≡ all_without_pending ks
-none-drafted zero ks = refl
-none-drafted (suc n) [] = refl
 none-drafted (suc n) (k ∷ ks) = ap (λ l. without_pending k ∷ l) (none-drafted n ks)
+none-drafted n ks = refl
 
 pub none-fits : (n : ℕ) (ks : List StreamContents) → n ≡ length ks → AreDraftsOf (replicate n None) ks
 none-fits zero ks e = tt
@@ -136,22 +135,19 @@ fits-set (d ∷ ds) (m ∷ ks) (suc n) o k is all = (all.0, fits-set ds ks n o k
 
 pub drafted-set : (f : StreamContents → StreamContents) (ds : Drafts) (ks : List StreamContents) (n : ℕ) (o p : Option Draft) (k m : StreamContents) → n < length ds → n < length ks → o ≡ get_or ds n o → k ≡ get_or ks n k → drafted p m ≡ f (drafted o k)
     → drafted_all (set ds n p) (set ks n m) ≡ changed_at n f (drafted_all ds ks)
-drafted-set f [] ks n o p k m h g at is e = absurd (omega arith)
-drafted-set f (d ∷ ds) [] n o p k m h g at is e = absurd (omega arith)
 drafted-set f (d ∷ ds) (x ∷ ks) zero o p k m h g at is e = ap (λ z. z ∷ drafted_all ds ks) (e ∙ λ i. f (drafted (at i) (is i)))
 drafted-set f (d ∷ ds) (x ∷ ks) (suc n) o p k m h g at is e = ap (λ zs. drafted d x ∷ zs) (drafted-set f ds ks n o p k m (omega arith) (omega arith) at is e)
+drafted-set f ds ks n o p k m h g at is e = absurd (omega arith)
 
 -- ======== one stream more changes places ========
 pub left-more : (ds : Drafts) (ks : List StreamContents) (n : ℕ) (o p : Option Draft) (k m : StreamContents) → n < length ds → n < length ks → o ≡ get_or ds n o → k ≡ get_or ks n k → without_pending m ≡ drafted o k
     → drafted_all (replicate (suc n) None ++ drop (suc n) (set ds n p)) (set ks n m) ≡ drafted_all (replicate n None ++ drop n ds) ks
-left-more [] ks n o p k m h g at is e = absurd (omega arith)
-left-more (d ∷ ds) [] n o p k m h g at is e = absurd (omega arith)
 left-more (d ∷ ds) (x ∷ ks) zero o p k m h g at is e = ap (λ z. z ∷ drafted_all ds ks) (e ∙ λ i. drafted (at i) (is i))
 left-more (d ∷ ds) (x ∷ ks) (suc n) o p k m h g at is e = ap (λ zs. without_pending x ∷ zs) (left-more ds ks n o p k m (omega arith) (omega arith) at is e)
+left-more ds ks n o p k m h g at is e = absurd (omega arith)
 
 pub back-more : (ds : Drafts) (ks : List StreamContents) (n : ℕ) (p : Option Draft) (k m : StreamContents) → n < length ds → n < length ks → k ≡ get_or ks n k → drafted p m ≡ without_pending k
     → drafted_all (take (suc n) (set ds n p)) (set ks n m) ≡ drafted_all (take n ds) ks
-back-more [] ks n p k m h g is e = absurd (omega arith)
-back-more (d ∷ ds) [] n p k m h g is e = absurd (omega arith)
 back-more (d ∷ ds) (x ∷ ks) zero p k m h g is e = ap (λ z. z ∷ all_without_pending ks) (e ∙ ap without_pending is)
 back-more (d ∷ ds) (x ∷ ks) (suc n) p k m h g is e = ap (λ zs. drafted d x ∷ zs) (back-more ds ks n p k m (omega arith) (omega arith) is e)
+back-more ds ks n p k m h g is e = absurd (omega arith)

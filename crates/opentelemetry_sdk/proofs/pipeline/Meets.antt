@@ -47,9 +47,8 @@ each-push seen (y ∷ xs) x = by (has seen y) refl (λ s. each-push s xs x)
 
     turn : (s e h : Bool) → ((e || s) || h) ≡ (s || (e || h))
     turn true true h = refl
-    turn true false h = refl
     turn false true h = refl
-    turn false false h = refl
+    turn s e h = refl
 
     by : (b : Bool) → has seen y ≡ b
         → ((s : List Identity) → model.each_once s (xs ++ x ∷ []) ≡ model.each_once s xs ++ cond (has s x || has xs x) [] (x ∷ []))

@@ -1,5 +1,6 @@
 -- Numbers of which none occurs twice.
-use Rattle.std.proofs.Common.{◌≡◌, ℕ, zero, suc, ◌+◌, ◌<◌, ◌==◌, Bool, true, false, cond, ◌||◌, List, [], ◌∷◌, ◌++◌, slice_get, refl, sym, ◌∙◌, ap, arith, eq-eqb, ne_eqb, true≢false}
+use Rattle.std.proofs.Common.{◌≡◌, ℕ, zero, suc, ◌+◌, ◌<◌, ◌==◌, true, false, cond, ◌||◌, List, [], ◌∷◌, ◌++◌, slice_get, refl, sym, ◌∙◌, ap, arith, eq-eqb, ne_eqb, true≢false}
+use Rattle.std.proofs.lemmas.Bool.{or_parts}
 use Rattle.std.specs.List.{AllByRecursion}
 use Rattle.otel_model_stream.specs.Totals.{has_number}
 use Rattle.otel_model.specs.Calls.{or_else}
@@ -7,18 +8,14 @@ use Rattle.otel_model.specs.Machine.{changed_at}
 use Rattle.opentelemetry_sdk.specs.pipeline.Pipelines.{AreFedOnce, changed_each}
 
 -- ======== one number more ========
-neither : (a b : Bool) → (a || b) ≡ false → (a ≡ false) × (b ≡ false)
-neither true b e = absurd (true≢false e)
-neither false b e = (refl, e)
-
 absent-push : (ns : List ℕ) (m n : ℕ) → has_number m ns ≡ false → (n == m) ≡ false → has_number m (ns ++ n ∷ []) ≡ false
 absent-push [] m n h e = ap (λ b. b || false) e
-absent-push (k ∷ ns) m n h e = let p = neither (k == m) (has_number m ns) h in λ i. p.0 i || absent-push ns m n p.1 e i
+absent-push (k ∷ ns) m n h e = let p = or_parts (k == m) (has_number m ns) h in λ i. p.0 i || absent-push ns m n p.1 e i
 
 pub once-push : (ns : List ℕ) (n : ℕ) → AreFedOnce ns → has_number n ns ≡ false → AreFedOnce (ns ++ n ∷ [])
 once-push [] n once new = (refl, tt)
 once-push (m ∷ ns) n once new =
-    let p = neither (m == n) (has_number n ns) new in
+    let p = or_parts (m == n) (has_number n ns) new in
     (absent-push ns m n once.0 (ne_eqb n m (λ q. true≢false (sym (eq-eqb m n (sym q)) ∙ p.0))), once-push ns n once.1 p.1)
 
 -- ======== what instruments feed ========

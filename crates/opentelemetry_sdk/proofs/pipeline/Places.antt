@@ -2,6 +2,7 @@
 use Rattle.std.proofs.Common.{◌≡◌, ℕ, zero, suc, ◌+◌, ◌<◌, ◌≤◌, Bool, true, false, cond, ◌&&◌, List, [], ◌∷◌, ◌++◌, map, filter, length, get_or, set, drop, replicate, Option, Some, None, option_map, refl, sym, ◌∙◌, ap, subst, arith, append_assoc, add-one, true≢false}
 use Rattle.std.specs.List.{IsDistinct, AllByRecursion, position, slice_get}
 use Rattle.std.proofs.lemmas.List.{append-nil, drop_all, length-map, length-replicate, nil_from_length}
+use Rattle.std.proofs.lemmas.List.Elements.{filter-append}
 use Rattle.otel_common.specs.Scopes.{scope_eq, scope_eq-Decides}
 use Rattle.otel_common.specs.declared.scopes.InstrumentationScope.{InstrumentationScope}
 use Rattle.otel_data.specs.declared.collections.Metric.{Metric}
@@ -17,24 +18,21 @@ use Rattle.opentelemetry_sdk.proofs.pipeline.Shows.{shown-suc}
 -- before the first
 pub joined-none : {A B : Type 0} (f : B → List A) (bs : List B) (n : ℕ) → n ≡ length bs → append_each (replicate n []) (map f bs) ≡ map f bs
 joined-none f [] zero e = refl
-joined-none f [] (suc n) e = absurd (omega arith)
-joined-none f (b ∷ bs) zero e = absurd (omega arith)
 joined-none f (b ∷ bs) (suc n) e = λ i. f b ∷ joined-none f bs n (omega arith) i
+joined-none f bs n e = absurd (omega arith)
 
 pub lists-long : {V : Type 0} (view : V → List Metric) (vs : List V) (n : ℕ) → map view vs ≡ replicate n [] → length vs ≡ n
 lists-long view vs n e = sym (length-map vs view) ∙ (ap length e ∙ length-replicate n [])
 
 -- where nothing is added
 pub joined-nothing : {A B : Type 0} (f : B → List A) (xs : List (List A)) (bs : List B) → ((b : B) → f b ≡ []) → append_each xs (map f bs) ≡ xs
-joined-nothing f [] bs e = refl
-joined-nothing f (x ∷ xs) [] e = refl
 joined-nothing f (x ∷ xs) (b ∷ bs) e = λ i. (ap (λ y. x ++ y) (e b) ∙ append-nil x) i ∷ joined-nothing f xs bs e i
+joined-nothing f xs bs e = refl
 
 -- and once more
 pub joined-twice : {A B : Type 0} (f g h : B → List A) (xs : List (List A)) (bs : List B) → ((b : B) → h b ≡ f b ++ g b) → append_each (append_each xs (map f bs)) (map g bs) ≡ append_each xs (map h bs)
-joined-twice f g h [] bs e = refl
-joined-twice f g h (x ∷ xs) [] e = refl
 joined-twice f g h (x ∷ xs) (b ∷ bs) e = λ i. (append_assoc x (f b) (g b) ∙ ap (λ y. x ++ y) (sym (e b))) i ∷ joined-twice f g h xs bs e i
+joined-twice f g h xs bs e = refl
 
 -- ======== a meter that was found ========
 each_at : (P : InstrumentationScope → Type 0) (ms : List InstrumentationScope) (n : ℕ) (s : InstrumentationScope) → AllByRecursion P ms → slice_get ms n ≡ Some s → P s
@@ -64,18 +62,16 @@ module _ (s : InstrumentationScope) (c : Bool) (x : Metric) where
 
   -- no meter is of the scope
   absent : (xs : List (List Metric)) (ms : List InstrumentationScope) → AllByRecursion (λ m. scope_eq s m ≡ false) ms → append_each xs (map gets ms) ≡ xs
-  absent [] ms all = refl
-  absent (y ∷ xs) [] all = refl
   absent (y ∷ xs) (m ∷ ms) all = λ i. (ap (λ z. y ++ z) (gets_none m all.0) ∙ append-nil y) i ∷ absent xs ms all.1 i
+  absent xs ms all = refl
 
   all_other : (ms : List InstrumentationScope) → position (scope_eq s) ms ≡ None → AllByRecursion (λ m. scope_eq s m ≡ false) ms
   all_other [] e = tt
   all_other (m ∷ ms) e = by (scope_eq s m) (position (scope_eq s) ms) refl (λ q. all_other ms q) (sym (position-cons (scope_eq s) m ms) ∙ e)
     where
       by : (b : Bool) (o : Option ℕ) → scope_eq s m ≡ b → (o ≡ None → AllByRecursion (λ m. scope_eq s m ≡ false) ms) → cond b (Some 0) (option_map suc o) ≡ None → AllByRecursion (λ m. scope_eq s m ≡ false) (m ∷ ms)
-      by true o p rest r = absurd (cc)
       by false None p rest r = (p, rest refl)
-      by false (Some n) p rest r = absurd (cc)
+      by b o p rest r = absurd (cc)
 
   pub placed-none : (xs : List (List Metric)) (ms : List InstrumentationScope) → position (scope_eq s) ms ≡ None → append_each xs (map gets ms) ≡ xs
   placed-none xs ms e = absent xs ms (all_other ms e)
@@ -94,10 +90,8 @@ module _ (s : InstrumentationScope) (c : Bool) (x : Metric) where
           → old ≡ get_or (v ∷ vs) n old → map view (set (v ∷ vs) n new) ≡ append_each (map view (v ∷ vs)) (map gets (m ∷ ms))
       by true o zero p rest r is = λ i. (e ∙ ap (λ z. view z ++ if_shown c x) is ∙ ap (λ b. view v ++ if_shown (b && c) x) (sym p)) i
           ∷ sym (absent (map view vs) ms (subst (λ (t : InstrumentationScope). AllByRecursion (λ y. scope_eq t y ≡ false) ms) (sym ((scope_eq-Decides s m).0 p)) apart.0)) i
-      by true o (suc n) p rest r is = absurd (cc)
-      by false None n p rest r is = absurd (cc)
-      by false (Some k) zero p rest r is = absurd (cc)
       by false (Some k) (suc n) p rest r is = λ i. sym (ap (λ z. view v ++ z) (gets_none m p) ∙ append-nil (view v)) i ∷ rest n (cc) is i
+      by b o n p rest r is = absurd (cc)
 
 -- ======== one stream more ========
 -- a stream that drops gives nothing
@@ -112,8 +106,7 @@ pushed-pointless now k xs ms e =
   where
     none : (a b : Bool) → if_shown (a && (b && false)) (shown_metric now k) ≡ []
     none true true = refl
-    none true false = refl
-    none false b = refl
+    none a b = refl
 
 -- what has points is shown
 pub pointed : (m : Metric) (o : Option Metric) → o ≡ if_points m → (x : Metric) → o ≡ Some x → (has_points m ≡ true) × (x ≡ m)
@@ -158,13 +151,6 @@ places-all now done all ks i ms h so_far =
     sym (joined-nothing (λ m. shown_in m now (drop i ks)) done ms (λ m. ap (shown_in m now) (drop_all i ks h))) ∙ so_far
 
 -- ======== one scope more ========
-filter_one : {A : Type 0} (p : A → Bool) (x : A) (xs : List A) → filter p (x ∷ xs) ≡ filter p (x ∷ []) ++ filter p xs
-filter_one p x xs = by (p x)
-  where
-    by : (b : Bool) → cond b (x ∷ filter p xs) (filter p xs) ≡ cond b (x ∷ []) [] ++ filter p xs
-    by true = refl
-    by false = refl
-
 -- the lists are those of the meters, one after another
 pub left-more : {V : Type 0} (view : V → List Metric) (f : InstrumentationScope → List Metric) (vs vs' : List V) (ms ms' : List InstrumentationScope) (v : V) (m : InstrumentationScope)
     → vs ≡ v ∷ vs' → ms ≡ m ∷ ms' → map view vs ≡ map f ms → (view v ≡ f m) × (map view vs' ≡ map f ms')
@@ -179,7 +165,7 @@ pub scopes-more : (now : ℕ) (ks : List StreamContents) (done done' all : List 
 scopes-more now ks done done' all s metrics ms ms' at shown e so_far =
     rw (e, append_assoc)
     (ap (λ (l : List Metric). done ++ (filter has_metrics (record { scope = s; metrics = l } ∷ []) ++ scopes_shown now ks ms')) shown
-    ∙ (ap (λ (l : List ScopeMetrics). done ++ l) (sym (filter_one has_metrics (scope_shown now ks s) (map (scope_shown now ks) ms')))
+    ∙ (ap (λ (l : List ScopeMetrics). done ++ l) (sym (filter-append has_metrics (scope_shown now ks s ∷ []) (map (scope_shown now ks) ms')))
     ∙ (ap (λ (l : List InstrumentationScope). done ++ scopes_shown now ks l) (sym at) ∙ so_far)))
 
 pub scopes-all : (now : ℕ) (ks : List StreamContents) (done all : List ScopeMetrics) (ms : List InstrumentationScope) → length ms ≡ 0 → done ++ scopes_shown now ks ms ≡ all → done ≡ all

@@ -4,12 +4,13 @@ use Rattle.std.specs.List.{list_any}
 use Rattle.std.proofs.Math.Seq.{take-suc}
 use Rattle.std.proofs.lemmas.Bool.{and_parts}
 use Rattle.std.proofs.lemmas.List.{append-nil}
+use Rattle.std.proofs.lemmas.List.Elements.{filter-append}
 use Rattle.otel_common.specs.declared.metrics.Aggregation.{Aggregation}
-use Rattle.otel_common.specs.declared.metrics.Aggregation.TheVariants.{Drop, Default, Sum, LastValue, ExplicitBucketHistogram}
+use Rattle.otel_common.specs.declared.metrics.Aggregation.TheVariants.{Default, ExplicitBucketHistogram}
 use Rattle.otel_common.specs.declared.scopes.InstrumentationScope.{InstrumentationScope}
-use Rattle.otel_model.specs.Calls.{About, InstrumentKind, Counter, UpDownCounter, Histogram, ObservableCounter, ObservableUpDownCounter, Gauge, ObservableGauge}
+use Rattle.otel_model.specs.Calls.{About, InstrumentKind, Histogram}
 use Rattle.otel_model.specs.Demands as model
-use Rattle.otel_model.specs.Demands.{Identity, Demand, ReaderAnswers, StreamSpec, answer_for, fits, is_valid, kind_default, default_from, reader_default, with_bounds, with_own, resolved_aggregation, demand_of, own_demand, demands_on, view_demands, is_compatible}
+use Rattle.otel_model.specs.Demands.{Identity, Demand, ReaderAnswers, StreamSpec, answer_for, fits, reader_default, with_own, resolved_aggregation, demand_of, own_demand, demands_on, view_demands, is_compatible}
 use Rattle.otel_model.specs.Machine as machine
 use Rattle.otel_model.specs.Machine.{build_demands}
 use Rattle.otel_model.specs.State.{ReaderPart}
@@ -18,62 +19,23 @@ use Rattle.opentelemetry_sdk.specs.States.{IsGoodIn}
 use Rattle.opentelemetry_sdk.specs.pipeline.Pipelines.{AreMet, Piped, part_of, named_identities, fates_of}
 use Rattle.opentelemetry_sdk.specs.pipeline.Streams.{StreamContents}
 use Rattle.opentelemetry_sdk.specs.pipeline.Views.{views_answering, usable_answer, usable_demands, can_keep, is_unfit, has_none, demands_own}
+use Rattle.opentelemetry_sdk.proofs.pipeline.DemandLemmas.{default_from-parts}
 use Rattle.opentelemetry_sdk.proofs.pipeline.Meets.{demanded-fates, no_identity, fed-empty}
 use Rattle.opentelemetry_sdk.proofs.pipeline.Records.{HaveStreams, identity_at-is, numbers-named}
 
 -- ======== which aggregations can be used ========
-kind_default-fits : (kind : InstrumentKind) → fits kind (kind_default kind) ≡ true
-kind_default-fits Counter = refl
-kind_default-fits UpDownCounter = refl
-kind_default-fits Histogram = refl
-kind_default-fits ObservableCounter = refl
-kind_default-fits ObservableUpDownCounter = refl
-kind_default-fits Gauge = refl
-kind_default-fits ObservableGauge = refl
-
-chosen-fits : (kind : InstrumentKind) (v f : Bool) (a other : Aggregation) → fits kind a ≡ f → fits kind other ≡ true → fits kind (cond (v && f) a other) ≡ true
-chosen-fits kind true true a other held stood = held
-chosen-fits kind true false a other held stood = stood
-chosen-fits kind false f a other held stood = stood
-
-default_from-fits : (kind : InstrumentKind) (wanted : Option Aggregation) → fits kind (default_from kind wanted) ≡ true
-default_from-fits kind None = kind_default-fits kind
-default_from-fits kind (Some Default) = kind_default-fits kind
-default_from-fits kind (Some Drop) = chosen-fits kind true (fits kind Drop) Drop (kind_default kind) refl (kind_default-fits kind)
-default_from-fits kind (Some Sum) = chosen-fits kind true (fits kind Sum) Sum (kind_default kind) refl (kind_default-fits kind)
-default_from-fits kind (Some LastValue) = chosen-fits kind true (fits kind LastValue) LastValue (kind_default kind) refl (kind_default-fits kind)
-default_from-fits kind (Some (ExplicitBucketHistogram bounds m)) =
-    let wanted : Aggregation = ExplicitBucketHistogram bounds m in
-    chosen-fits kind (is_valid wanted) (fits kind wanted) wanted (kind_default kind) refl (kind_default-fits kind)
-
-with_bounds-fits : (own : Option (List ℤ)) (a : Aggregation) → fits Histogram a ≡ true → fits Histogram (with_bounds own a) ≡ true
-with_bounds-fits None a e = e
-with_bounds-fits (Some own) (ExplicitBucketHistogram bounds m) e = refl
-with_bounds-fits (Some own) Drop e = e
-with_bounds-fits (Some own) Default e = e
-with_bounds-fits (Some own) Sum e = e
-with_bounds-fits (Some own) LastValue e = e
-
 with_own-fits : (kind : InstrumentKind) (own : Option (List ℤ)) (a : Aggregation) → fits kind a ≡ true → fits kind (with_own kind own a) ≡ true
-with_own-fits Histogram own a e = with_bounds-fits own a e
-with_own-fits Counter own a e = e
-with_own-fits UpDownCounter own a e = e
-with_own-fits ObservableCounter own a e = e
-with_own-fits ObservableUpDownCounter own a e = e
-with_own-fits Gauge own a e = e
-with_own-fits ObservableGauge own a e = e
+with_own-fits Histogram (Some own) (ExplicitBucketHistogram bounds m) e = refl
+with_own-fits kind own a e = e
 
 -- what is left to the reader or the instrument can be used
 pub compatible-is : (answers : ReaderAnswers) (scope : InstrumentationScope) (about : About) (s : StreamSpec) → is_compatible (demand_of answers scope about s) ≡ can_keep about.kind s.aggregation
 compatible-is answers scope about s = by s.aggregation
   where
     by : (set : Option Aggregation) → fits about.kind (resolved_aggregation answers about set) ≡ can_keep about.kind set
-    by None = with_own-fits about.kind about.bounds (reader_default answers about.kind) (default_from-fits about.kind (answer_for answers about.kind).aggregation)
-    by (Some Default) = default_from-fits about.kind (answer_for answers about.kind).aggregation
-    by (Some Drop) = refl
-    by (Some Sum) = refl
-    by (Some LastValue) = refl
-    by (Some (ExplicitBucketHistogram bounds m)) = refl
+    by None = with_own-fits about.kind about.bounds (reader_default answers about.kind) (default_from-parts about.kind (answer_for answers about.kind).aggregation).1
+    by (Some Default) = (default_from-parts about.kind (answer_for answers about.kind).aggregation).1
+    by (Some a) = refl
 
 -- ======== the answers, one after another ========
 module _ (answers : ReaderAnswers) (scope : InstrumentationScope) (about : About) where
@@ -88,11 +50,7 @@ module _ (answers : ReaderAnswers) (scope : InstrumentationScope) (about : About
 
   usable-cons : (o : Option StreamSpec) (l : List (Option StreamSpec)) → usable (o ∷ l) ≡ usable-one o ++ usable l
   usable-cons None l = refl
-  usable-cons (Some s) l = by (is_compatible (demand_of answers scope about s))
-    where
-      by : (b : Bool) → cond b (demand_of answers scope about s ∷ usable l) (usable l) ≡ cond b (demand_of answers scope about s ∷ []) [] ++ usable l
-      by true = refl
-      by false = refl
+  usable-cons (Some s) l = filter-append is_compatible (demand_of answers scope about s ∷ []) (demands l)
 
   usable-push : (l : List (Option StreamSpec)) (o : Option StreamSpec) → usable (l ++ o ∷ []) ≡ usable l ++ usable-one o
   usable-push [] o = usable-cons o [] ∙ append-nil (usable-one o)

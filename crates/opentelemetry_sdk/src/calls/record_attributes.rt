@@ -1,7 +1,7 @@
 //! Lists of attributes that records have.
 
 ghost use Rattle.std.specs.Prelude.{◌≡◌, IfOk, IsOkUnless, List};
-ghost use Rattle.opentelemetry_sdk.specs.Lent.{shared_list};
+ghost use Rattle.opentelemetry_sdk.specs.Lent.{owned_list, shared_list};
 
 use otel_common::attributes::KeyValue;
 use otel_common::faults::Fault;
@@ -109,41 +109,21 @@ impl Drop for SharedAttributes {
 
 impl SharedAttributes {
     /// Another owner, and the list. Takes no memory: once 2^63 - 1 owners are counted, the list is left to last.
-    fn divide(self) -> (SharedAttributes, RecordAttributes)
+    fn divide(self) -> (SharedAttributes, Owned)
         ensures kept { shared_list result.0 ≡ shared_list self }
-        ensures shared { result.1 ≡ shared_list self }
+        ensures shared { owned_list result.1 ≡ shared_list self }
     {
         match self {
-            SharedAttributes::Empty => (
-                SharedAttributes::Empty,
-                RecordAttributes {
-                    owned: Owned::Empty,
-                },
-            ),
+            SharedAttributes::Empty => (SharedAttributes::Empty, Owned::Empty),
             SharedAttributes::Counted(items) => match items.share() {
-                Ok(shared) => (
-                    SharedAttributes::Counted(items),
-                    RecordAttributes {
-                        owned: Owned::Shared(shared),
-                    },
-                ),
+                Ok(shared) => (SharedAttributes::Counted(items), Owned::Shared(shared)),
                 Err(_) => {
                     let items: &'static SharedItems<KeyValue> = Box::leak(items);
-                    (
-                        SharedAttributes::Lasting(items),
-                        RecordAttributes {
-                            owned: Owned::Lasting(items),
-                        },
-                    )
+                    (SharedAttributes::Lasting(items), Owned::Lasting(items))
                 }
             },
             SharedAttributes::Lasting(items) => {
-                (
-                    SharedAttributes::Lasting(items),
-                    RecordAttributes {
-                        owned: Owned::Lasting(items),
-                    },
-                )
+                (SharedAttributes::Lasting(items), Owned::Lasting(items))
             }
         }
     }
@@ -153,9 +133,9 @@ impl SharedAttributes {
         ensures shared { result ≡ shared_list self.old }
         ensures kept { shared_list self.new ≡ shared_list self.old }
     {
-        let (list, shared) = replace(self, SharedAttributes::Empty).divide();
+        let (list, owned) = replace(self, SharedAttributes::Empty).divide();
         *self = list;
-        shared
+        RecordAttributes { owned }
     }
 
     /// A list to share out, and another owner of it.

@@ -1,11 +1,8 @@
 //! Instruments, as their builds describe them.
 
-ghost use Rattle.std.specs.Prelude.{◌≡◌};
-
 use otel_common::lists::Items;
 use otel_common::strings::StringValue;
 use otel_stream::instrument::InstrumentKind;
-use std::alloc::AllocError;
 use std::marker::Model;
 
 /// What a build says about its instrument, apart from the meter.
@@ -27,19 +24,4 @@ impl<'a> Model for About<'a> {
     ghost Value = { calls.About };
 
     ghost view = { λ a. record { kind = a.kind; signed = a.signed; name = a.name.now; description = a.description.now; unit = a.unit.now; bounds = a.bounds.now } };
-}
-
-impl<'a> Clone for About<'a> {
-    ghost is_clone = { λ s t. t ≡ s };
-
-    fn clone(&self) -> Result<About<'a>, AllocError> {
-        Ok(About {
-            kind: self.kind,
-            signed: self.signed,
-            name: self.name,
-            description: self.description,
-            unit: self.unit,
-            bounds: self.bounds,
-        })
-    }
 }

@@ -1,11 +1,11 @@
 //! What a stream makes of its records, given its demand, and the tables of kinds that it follows.
 
-ghost use Rattle.std.specs.Prelude.{◌≡◌, false, IfOk, IsOkUnless};
+ghost use Rattle.std.specs.Prelude.{◌≡◌, IfOk, IsOkUnless};
 ghost use Rattle.otel_aggregate.specs.Any as any;
 ghost use Rattle.otel_model.specs.Calls.{is_observable};
 ghost use Rattle.otel_model.specs.Demands as demands;
 ghost use Rattle.otel_model.specs.Demands.{resets};
-ghost use Rattle.otel_model.specs.Streams.{aggregate_of, always_resets, has_sum, is_delta, is_drained, is_monotonic_kind, observes_sums};
+ghost use Rattle.otel_model.specs.Streams.{aggregate_of, has_sum, is_delta, is_drained, is_monotonic_kind, observes_sums};
 ghost use Rattle.opentelemetry_sdk.specs.pipeline.Streams.{IsMakeable, asks_monotonic};
 
 use otel_aggregate::aggregators::bounds::Bounds;
@@ -21,43 +21,29 @@ use otel_stream::instrument::InstrumentKind;
 pub(crate) fn is_drop(aggregation: &Aggregation) -> bool
     ensures { result ≡ demands.is_drop aggregation.now }
 {
-    match aggregation {
-        Aggregation::Drop => true,
-        Aggregation::Default => false,
-        Aggregation::Sum => false,
-        Aggregation::LastValue => false,
-        Aggregation::ExplicitBucketHistogram { .. } => false,
-    }
+    matches!(aggregation, Aggregation::Drop)
 }
 
 /// Whether an instrument of this kind is observable.
 pub(crate) fn is_observable(kind: InstrumentKind) -> bool
     ensures { result ≡ is_observable kind }
 {
-    match kind {
-        InstrumentKind::Counter => false,
-        InstrumentKind::UpDownCounter => false,
-        InstrumentKind::Histogram => false,
-        InstrumentKind::ObservableCounter => true,
-        InstrumentKind::ObservableUpDownCounter => true,
-        InstrumentKind::Gauge => false,
-        InstrumentKind::ObservableGauge => true,
-    }
+    matches!(
+        kind,
+        InstrumentKind::ObservableCounter
+            | InstrumentKind::ObservableUpDownCounter
+            | InstrumentKind::ObservableGauge
+    )
 }
 
 /// Whether the sums of a kind of instrument never fall.
 fn is_monotonic(kind: InstrumentKind) -> bool
     ensures { result ≡ is_monotonic_kind kind }
 {
-    match kind {
-        InstrumentKind::Counter => true,
-        InstrumentKind::UpDownCounter => false,
-        InstrumentKind::Histogram => true,
-        InstrumentKind::ObservableCounter => true,
-        InstrumentKind::ObservableUpDownCounter => false,
-        InstrumentKind::Gauge => false,
-        InstrumentKind::ObservableGauge => false,
-    }
+    matches!(
+        kind,
+        InstrumentKind::Counter | InstrumentKind::Histogram | InstrumentKind::ObservableCounter
+    )
 }
 
 /// Whether a histogram of a kind's values has a sum. It has none for up-down counters, synchronous or not, and for
@@ -65,51 +51,27 @@ fn is_monotonic(kind: InstrumentKind) -> bool
 fn has_sum(kind: InstrumentKind) -> bool
     ensures { result ≡ has_sum kind }
 {
-    match kind {
-        InstrumentKind::Counter => true,
-        InstrumentKind::UpDownCounter => false,
-        InstrumentKind::Histogram => true,
-        InstrumentKind::ObservableCounter => true,
-        InstrumentKind::ObservableUpDownCounter => false,
-        InstrumentKind::Gauge => true,
-        InstrumentKind::ObservableGauge => false,
-    }
+    is_monotonic(kind) || matches!(kind, InstrumentKind::Gauge)
 }
 
 /// Whether a kind observes values that are already summed.
 fn observes_sums(kind: InstrumentKind) -> bool
     ensures { result ≡ observes_sums kind }
 {
-    match kind {
-        InstrumentKind::Counter => false,
-        InstrumentKind::UpDownCounter => false,
-        InstrumentKind::Histogram => false,
-        InstrumentKind::ObservableCounter => true,
-        InstrumentKind::ObservableUpDownCounter => true,
-        InstrumentKind::Gauge => false,
-        InstrumentKind::ObservableGauge => false,
-    }
+    matches!(
+        kind,
+        InstrumentKind::ObservableCounter | InstrumentKind::ObservableUpDownCounter
+    )
 }
 
-/// Whether the stream of this demand starts again at each collection, whatever its reader answers, as the last values
-/// of an asynchronous gauge do.
-fn always_resets(demand: &Demand) -> bool
-    ensures { result ≡ always_resets demand.now }
-{
-    match (&demand.aggregation, demand.identity.kind) {
-        (Aggregation::LastValue, InstrumentKind::ObservableGauge) => true,
-        _ => false,
-    }
-}
-
-/// The temporality of the stream of this demand at a reader with these answers.
+/// The temporality of the stream of this demand at a reader with these answers. The last values of an asynchronous gauge
+/// start again at each collection, whatever the reader answers.
 pub(crate) fn temporality_of(answers: &Answers, demand: &Demand) -> Temporality
     ensures { resets result ≡ is_delta answers.now demand.now }
 {
-    if always_resets(demand) {
-        Temporality::Delta
-    } else {
-        answers.temporality(demand.identity.kind)
+    match (&demand.aggregation, demand.identity.kind) {
+        (Aggregation::LastValue, InstrumentKind::ObservableGauge) => Temporality::Delta,
+        (_, kind) => answers.temporality(kind),
     }
 }
 

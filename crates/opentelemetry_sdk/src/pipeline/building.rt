@@ -15,7 +15,6 @@ ghost use Rattle.opentelemetry_sdk.specs.pipeline.Views.{views_answering, usable
 use crate::pipeline::Pipeline;
 use crate::pipeline::about::About;
 use crate::pipeline::aggregations::{is_drop, temporality_of};
-use crate::pipeline::defaults::fits;
 use crate::pipeline::demands::{demand_of, own_demand};
 use crate::pipeline::metric_stream::MetricStream;
 use crate::pipeline::vectors::reserve_one;
@@ -23,6 +22,7 @@ use otel_aggregate::value_map::hashing::SetHashBuilder;
 use otel_common::faults::Fault;
 use otel_common::lists::Items;
 use otel_common::scopes::InstrumentationScope;
+use otel_stream::compatible::is_aggregator_compatible;
 use otel_stream::demand::Demand;
 use otel_stream::instrument::InstrumentKind;
 use otel_stream::laws::kind_laws;
@@ -34,18 +34,8 @@ fn can_keep(kind: InstrumentKind, stream: &Stream) -> bool
     ensures { result ≡ views.can_keep kind stream.now.aggregation }
 {
     match stream.aggregation() {
-        Some(aggregation) => fits(kind, aggregation),
+        Some(aggregation) => is_aggregator_compatible(kind, aggregation).is_ok(),
         None => true,
-    }
-}
-
-/// Tells whether a view answered with an aggregation that can't be used with this kind of instrument.
-fn is_unfit(kind: InstrumentKind, answer: &Option<Stream>) -> bool
-    ensures { result ≡ views.is_unfit kind answer.now }
-{
-    match answer {
-        Some(stream) => !can_keep(kind, stream),
-        None => false,
     }
 }
 
@@ -60,7 +50,10 @@ fn any_answer(answered: &[Option<Stream>]) -> bool
 fn any_unfit(kind: InstrumentKind, answered: &[Option<Stream>]) -> bool
     ensures { result ≡ list_any (views.is_unfit kind) answered.now }
 {
-    answered.iter().any(|answer| is_unfit(kind, answer))
+    answered.iter().any(|answer| match answer {
+        Some(stream) => !can_keep(kind, stream),
+        None => false,
+    })
 }
 
 /// Tells whether an instrument that feeds these streams of its views demands one of its own beside them. It does in two

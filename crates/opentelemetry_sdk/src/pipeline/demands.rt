@@ -4,7 +4,6 @@
 ghost use Rattle.std.specs.Prelude.{◌≡◌, [], IfOk, IsOkUnless, true};
 ghost use Rattle.otel_model.specs.Calls.{ascii_lowercase, or_else};
 ghost use Rattle.otel_model.specs.Demands.{answer_for, demand_of, own_demand, are_good_bounds, is_valid, default_limit, resolved_aggregation};
-ghost use Rattle.opentelemetry_sdk.specs.pipeline.Identities.{identity_with};
 
 use crate::pipeline::about::About;
 use crate::pipeline::defaults::{reader_default, resolved_own};
@@ -33,19 +32,8 @@ fn lowered_text(alloc: Global, text: &StringValue) -> Result<StringValue, Fault>
     Ok(lowered.into())
 }
 
-/// The text, or an empty one if there is none.
-pub(crate) fn text_or_empty(alloc: Global, text: &Option<StringValue>) -> Result<StringValue, Fault>
-    ensures text { IfOk result (λ t. t ≡ or_else text.now []) }
-    ensures only_memory { IsOkUnless result Fault.OutOfMemory }
-{
-    match text {
-        Some(text) => Ok(text.clone()?),
-        None => Ok(String::new(alloc).into()),
-    }
-}
-
 /// The first text, or else the second, or else an empty one.
-fn text_or(
+pub(crate) fn text_or(
     alloc: Global,
     first: &Option<StringValue>,
     second: &Option<StringValue>,
@@ -53,9 +41,9 @@ fn text_or(
     ensures text { IfOk result (λ t. t ≡ or_else first.now (or_else second.now [])) }
     ensures only_memory { IsOkUnless result Fault.OutOfMemory }
 {
-    match first {
-        Some(text) => Ok(text.clone()?),
-        None => text_or_empty(alloc, second),
+    match (first, second) {
+        (Some(text), _) | (None, Some(text)) => Ok(text.clone()?),
+        (None, None) => Ok(String::new(alloc).into()),
     }
 }
 
@@ -67,29 +55,6 @@ fn spelling_of<'a>(set: &'a Option<StringValue>, own: &'a StringValue) -> &'a St
         Some(name) => name,
         None => own,
     }
-}
-
-/// The identity of the stream that an instrument demands with these settings, which makes it the same as another or
-/// not.
-fn identity_of(
-    alloc: Global,
-    scope: &InstrumentationScope,
-    about: &About<'_>,
-    settings: &StreamSpec,
-) -> Result<Identity, Fault>
-    ensures identity { IfOk result (λ x. x ≡ identity_with scope.now about.now settings.now) }
-    ensures only_memory { IsOkUnless result Fault.OutOfMemory }
-{
-    copied_scope();
-    let spelling = spelling_of(&settings.name, about.name);
-    Ok(Identity {
-        scope: scope.clone()?,
-        kind: about.kind,
-        signed: about.signed,
-        description: text_or(alloc, &settings.description, about.description)?,
-        unit: text_or(alloc, &settings.unit, about.unit)?,
-        name: lowered_text(alloc, spelling)?,
-    })
 }
 
 /// The cardinality limit, which is how many sets of attributes may have points of their own: the one that is set, or
@@ -140,11 +105,20 @@ pub fn demand_of(
     ensures only_memory { IsOkUnless result Fault.OutOfMemory }
 {
     copied_attributes();
+    copied_scope();
     stream.lawful();
     let settings = stream.spec();
+    let spelling = spelling_of(&settings.name, about.name);
     Ok(Demand {
-        identity: identity_of(alloc, scope, about, settings)?,
-        spelling: spelling_of(&settings.name, about.name).clone()?,
+        identity: Identity {
+            scope: scope.clone()?,
+            kind: about.kind,
+            signed: about.signed,
+            description: text_or(alloc, &settings.description, about.description)?,
+            unit: text_or(alloc, &settings.unit, about.unit)?,
+            name: lowered_text(alloc, spelling)?,
+        },
+        spelling: spelling.clone()?,
         aggregation: aggregation_of(alloc, answers, about, &settings.aggregation)?,
         allow: settings.allow.clone()?,
         limit: limit_of(answers, about.kind, settings),

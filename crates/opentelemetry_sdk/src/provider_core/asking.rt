@@ -2,11 +2,10 @@
 
 ghost use Rattle.std.specs.Prelude.{◌≡◌, map, IfOk, IsOkUnless};
 ghost use Rattle.std.specs.Option.{option_map};
-ghost use Rattle.otel_model.specs.Demands.{instrument_of};
 ghost use Rattle.opentelemetry_sdk.specs.States.{AreAsked};
 
 use crate::pipeline::about::About;
-use crate::pipeline::demands::text_or_empty;
+use crate::pipeline::demands::text_or;
 use otel_common::faults::Fault;
 use otel_common::laws::copied_scope;
 use otel_common::scopes::InstrumentationScope;
@@ -14,25 +13,6 @@ use otel_stream::instrument::Instrument;
 use otel_stream::stream::Stream;
 use otel_stream::view::View;
 use std::alloc::Global;
-
-/// Makes the instrument of a build, as views see it.
-fn seen_by_views(
-    alloc: Global,
-    scope: &InstrumentationScope,
-    about: &About<'_>,
-) -> Result<Instrument, Fault>
-    ensures instrument { IfOk result (λ i. i ≡ instrument_of scope.now about.now) }
-    ensures only_memory { IsOkUnless result Fault.OutOfMemory }
-{
-    copied_scope();
-    Ok(Instrument {
-        name: about.name.clone()?,
-        description: text_or_empty(alloc, about.description)?,
-        kind: about.kind,
-        unit: text_or_empty(alloc, about.unit)?,
-        scope: scope.clone()?,
-    })
-}
 
 /// Asks each view about an instrument, in order.
 fn ask_each<V: View>(
@@ -67,7 +47,14 @@ pub(crate) fn ask_in<V: View>(
             if views.is_empty() {
                 return Ok(Vec::new(alloc));
             }
-            let instrument = seen_by_views(alloc, scope, about)?;
+            copied_scope();
+            let instrument = Instrument {
+                name: about.name.clone()?,
+                description: text_or(alloc, about.description, &None)?,
+                kind: about.kind,
+                unit: text_or(alloc, about.unit, &None)?,
+                scope: scope.clone()?,
+            };
             ask_each(alloc, views, &instrument)
         }
         None => Ok(Vec::new(alloc)),

@@ -29,15 +29,6 @@ use otel_common::scopes::InstrumentationScope;
 use otel_stream::stream::Stream;
 use otel_stream::view::View;
 
-/// Copies a scope.
-fn copy_scope(scope: &InstrumentationScope) -> Result<InstrumentationScope, Fault>
-    ensures copy { IfOk result (λ s. s ≡ scope.now) }
-    ensures only_memory { IsOkUnless result Fault.OutOfMemory }
-{
-    copied_scope();
-    Ok(scope.clone()?)
-}
-
 /// Makes an instrument at all readers or at none, given each view's answer. New streams hash sets with this hasher.
 /// Without a scope it demands no stream.
 fn make(
@@ -82,7 +73,9 @@ impl Core {
         if let Some(number) = self.meters.get_index_of(scope) {
             return Ok(Some(number));
         }
-        let (number, _) = self.meters.insert_full(copy_scope(scope)?)?;
+        copied_scope();
+        let copied = scope.clone()?;
+        let (number, _) = self.meters.insert_full(copied)?;
         Ok(Some(number))
     }
 
@@ -132,11 +125,7 @@ impl Core {
         if identity != self.identity {
             return Err(Fault::UnknownMeter);
         }
-        let scope = match scope_of(&self.meters, meter) {
-            Ok(scope) => scope,
-            Err(fault) => return Err(fault),
-        };
-        let scope = good_scope(scope, about);
+        let scope = good_scope(scope_of(&self.meters, meter)?, about);
         let answered = ask_in(self.alloc, views, scope, about)?;
         make(
             &mut self.instruments,

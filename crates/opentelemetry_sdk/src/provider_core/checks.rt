@@ -168,9 +168,7 @@ pub(crate) fn check_observations(
     ensures named { IfErr result IsNamed }
 {
     for observed in observations {
-        if let Err(fault) = check_observation(instruments, observed) {
-            return Err(fault);
-        }
+        check_observation(instruments, observed)?;
     }
     Ok(())
 }

@@ -45,9 +45,7 @@ impl Core {
         if self.shut {
             return Err(Fault::InternalFailure(InternalFault::ReaderShutDown));
         }
-        if let Err(fault) = check_observations(&self.instruments, observations) {
-            return Err(fault);
-        }
+        check_observations(&self.instruments, observations)?;
         self.pipelines[reader].collect(&self.resource, &self.meters, observations, now)
     }
 }

@@ -123,7 +123,7 @@ impl<K, T, P: Parts> AsyncInstrumentBuilder<K, T, P> {
         ensures views { provider_views provider.new ≡ provider_views provider.old }
     {
         let AsyncInstrumentBuilder { builder, callbacks } = self;
-        let Meter { identity, number } = builder.meter();
+        let Meter { identity, number } = builder.meter;
         provider.core.law_of_state();
         provider.core.check_meter(identity, number)?;
         provider.callbacks.reserve(callbacks.len())?;
@@ -132,7 +132,7 @@ impl<K, T, P: Parts> AsyncInstrumentBuilder<K, T, P> {
             register(&mut provider.callbacks, number, callbacks);
         }
         Ok(Asynchronous {
-            identity: builder.meter().identity,
+            identity,
             number,
             of: PhantomData,
         })

@@ -70,16 +70,13 @@ impl<K, T: NumberType> Synchronous<K, T> {
     {
         let bound = provider.core.bind(self.identity, self.number, attributes);
         provider.core.law_of_state();
-        match bound {
-            Ok(handle) => Ok(Bound {
-                kept: Kept {
-                    identity: self.identity,
-                    handle,
-                    of: PhantomData,
-                },
-            }),
-            Err(fault) => Err(fault),
-        }
+        Ok(Bound {
+            kept: Kept {
+                identity: self.identity,
+                handle: bound?,
+                of: PhantomData,
+            },
+        })
     }
 }
 

@@ -26,7 +26,7 @@ use std::marker::PhantomData;
 /// Builds an instrument of the kind that `K` marks, with values of type `T` (Metrics API, "Instrument").
 #[derive_where(Debug)]
 pub struct InstrumentBuilder<K, T> {
-    meter: Meter,
+    pub(crate) meter: Meter,
     sort: InstrumentSort,
     name: StringValue,
     description: Option<StringValue>,
@@ -68,13 +68,6 @@ impl<K, T> InstrumentBuilder<K, T> {
             boundaries: None,
             of: PhantomData,
         }
-    }
-
-    /// Returns the meter.
-    pub(crate) fn meter(&self) -> Meter
-        ensures { result ≡ meter_of self.now }
-    {
-        self.meter
     }
 
     /// Sets the instrument's description, in place of an earlier one. Takes no memory.
@@ -119,14 +112,12 @@ impl<K, T> InstrumentBuilder<K, T> {
         ensures views { provider_views provider.new ≡ provider_views provider.old }
         ensures callbacks { callbacks_of provider.new ≡ callbacks_of provider.old }
     {
-        match self.make(&mut provider.core, &provider.views, now) {
-            Ok(number) => Ok(Synchronous {
-                identity: self.meter.identity,
-                number,
-                of: PhantomData,
-            }),
-            Err(fault) => Err(fault),
-        }
+        let number = self.make(&mut provider.core, &provider.views, now)?;
+        Ok(Synchronous {
+            identity: self.meter.identity,
+            number,
+            of: PhantomData,
+        })
     }
 
     /// Makes the instrument and returns its number.

@@ -156,13 +156,10 @@ impl<P: Parts> Provider<P> {
     {
         let given = self.core.meter(&scope);
         self.core.law_of_state();
-        match given {
-            Ok(number) => Ok(Meter {
-                identity: self.core.identity(),
-                number,
-            }),
-            Err(fault) => Err(fault),
-        }
+        Ok(Meter {
+            identity: self.core.identity(),
+            number: given?,
+        })
     }
 
     /// Returns the meter of the scope that has this name and no version, schema URL or attributes. The empty name is a

@@ -1,6 +1,5 @@
 use Rattle.std.proofs.Common.{◌≡◌, ◌∙◌, rules, ap}
 use Rattle.otel_model.specs.Demands.{is_valid, resolved_aggregation}
-use Rattle.opentelemetry_sdk.specs.pipeline.Identities.{identity_with}
 use Rattle.opentelemetry_sdk.proofs.pipeline.DemandLemmas.{demand_made, resolved_valid}
 use Rattle.opentelemetry_sdk.proofs.pipeline.demands.demand_of.Goals as goal
 
@@ -9,7 +8,7 @@ pub returns-clause-demand : goal.returns-clause-demand
 returns-clause-demand c =
     let settings : c.spec-settings.result.now ≡ c.args.stream.now = c.spec-settings.ensures in
     demand_made c.args.answers.now c.args.scope.now c.args.about.now c.args.stream.now _
-    (c.in_ok-identity_of.ensures.identity ∙ ap (identity_with c.args.scope.now c.args.about.now) settings)
+    (search rules)
     (search rules)
     (c.in_ok-aggregation_of.ensures.aggregation ∙ ap (λ s. resolved_aggregation c.args.answers.now c.args.about.now s.aggregation) settings)
     (search rules)

@@ -5,11 +5,11 @@ use Rattle.opentelemetry_sdk.specs.Providers.{views_of}
 use Rattle.opentelemetry_sdk.proofs.provider.Provider.meter_with_scope.Goals as goal
 
 -- with the provider's views
-pub returns-in-Ok-clause-step : goal.returns-in-Ok-clause-step
-returns-in-Ok-clause-step g c = c.in-Ok.ensures.step (views_of g.P.View.View.answer c.args.self.now)
-
-pub returns-in-Ok-clause-readers : goal.returns-in-Ok-clause-readers
-returns-in-Ok-clause-readers g c = kept_at_once [] _ (model.Call.Meter c.args.scope) _ _ (c.meter-given.ensures.step [])
+pub returns-clause-step : goal.returns-clause-step
+returns-clause-step g c = c.in_ok-given.ensures.step (views_of g.P.View.View.answer c.args.self.now)
 
 pub returns-clause-readers : goal.returns-clause-readers
 returns-clause-readers g c = kept_at_once [] _ (model.Call.Meter c.args.scope) _ _ (c.meter-given.ensures.step [])
+
+pub returns-in_err-given-clause-readers : goal.returns-in_err-given-clause-readers
+returns-in_err-given-clause-readers g c = kept_at_once [] _ (model.Call.Meter c.args.scope) _ _ (c.meter-given.ensures.step [])

@@ -5,16 +5,15 @@ use Rattle.std.proofs.lemmas.Option.{slice_get-map}
 use Rattle.otel_model.specs.Calls as model
 use Rattle.otel_model.specs.Machine.{changed_at, part_after_call}
 use Rattle.otel_model.specs.Refusals.{observations_refusal}
-use Rattle.otel_model.specs.Steps.{Step}
 use Rattle.otel_model.specs.State.{State}
 use Rattle.opentelemetry_sdk.specs.pipeline.Pipelines.{part_of}
 use Rattle.opentelemetry_sdk.specs.Cores.{state_in}
-use Rattle.opentelemetry_sdk.specs.Correspondence.{fault_of, observed_of, reply_from}
-use Rattle.opentelemetry_sdk.specs.States.{CoreContents, IsFault, IsTaken}
-use Rattle.opentelemetry_sdk.proofs.Collects.{get-at, no-reader, shut-reader, by-observations, collect-step, set-seen, set-unseen}
-use Rattle.opentelemetry_sdk.proofs.Outcomes.{OnOk-weaker, OnErr-weaker}
+use Rattle.opentelemetry_sdk.specs.Correspondence.{observed_of, reply_from}
+use Rattle.opentelemetry_sdk.specs.States.{IsTaken}
+use Rattle.opentelemetry_sdk.proofs.Collects.{get-at, no-reader, shut-reader, collect-step, set-seen, set-unseen}
+use Rattle.std.proofs.lemmas.Result.{on_ok_weaker, on_err_weaker}
 use Rattle.opentelemetry_sdk.proofs.Sound.{sound-step}
-use Rattle.opentelemetry_sdk.proofs.Stepped.{named-step, refused-step}
+use Rattle.opentelemetry_sdk.proofs.Stepped.{named-step}
 use Rattle.opentelemetry_sdk.proofs.Typed.{typed-observed, observable-observed}
 use Rattle.opentelemetry_sdk.proofs.provider_core.Core.collect.Goals.{After-collect}
 use Rattle.opentelemetry_sdk.proofs.provider_core.Core.collect.Goals as goal
@@ -31,29 +30,21 @@ returns-then-self-clause-step c =
     let inside : c.args.reader < length old.readers = rw length-map (omega (arith, c.if-reader-len.false, c.len.ensures, c.self.inside.pipelines.ok.0)) in
     rw (← c.self.view_is) (λ views. named-step views old old (model.Call.Collect c.args.reader c.args.now (map observed_of c.args.observations.now)) model.Fault.ReaderShutDown (shut-reader old c.args.reader c.args.now (map observed_of c.args.observations.now) inside c.if-self.true) refl)
 
-pub returns-in-Err-clause-step : goal.returns-in-Err-clause-step
-returns-in-Err-clause-step c =
-    let old : State = state_in c.self.inside in
-    let os = map observed_of c.args.observations.now in
-    let inside : c.args.reader < length old.readers = rw length-map (omega (arith, c.if-reader-len.false, c.len.ensures, c.self.inside.pipelines.ok.0)) in
-    λ views. subst (λ (k : CoreContents). Step views k.state (model.Call.Collect c.args.reader c.args.now (map observed_of c.args.observations.now)) (model.Reply.Refused (fault_of c.in-Err.fault)) k.state) c.self.view_is (refused-step views old old (model.Call.Collect c.args.reader c.args.now (map observed_of c.args.observations.now)) c.in-Err.fault (λ _. refl)
-    (subst (λ o. IsFault o c.in-Err.fault) (ap (λ is. observations_refusal is os) c.deref.ensures.value ∙ sym (by-observations old c.args.reader c.args.now os inside c.if-self.false)) c.in-Err.ensures.fault) refl)
-
 -- the observations are of instruments that take them, so they are of the number type of what these feed
 pub collect-requires-clause-typed : goal.collect-requires-clause-typed
 collect-requires-clause-typed c =
     let ps = c.self.inside.pipelines.items in
     let inside : c.args.reader < length ps = omega (arith, c.if-reader-len.false, c.len.ensures, c.self.inside.pipelines.ok.0) in
     typed-observed c.self.inside.instruments.items ps c.args.observations.now c.args.reader c.index_mut.result.now (get-at ps c.args.reader c.index_mut.result.now inside c.index_mut.ensures.value) c.self.invariant.typed
-    (subst (λ is. All (IsTaken is) c.args.observations.now) c.deref.ensures.value c.in_default.ensures.taken)
+    (subst (λ is. All (IsTaken is) c.args.observations.now) c.deref.ensures.value c.in_ok-check_observations.ensures.taken)
 
 pub collect-requires-clause-observable : goal.collect-requires-clause-observable
 collect-requires-clause-observable c =
     let ps = c.self.inside.pipelines.items in
     let inside : c.args.reader < length ps = omega (arith, c.if-reader-len.false, c.len.ensures, c.self.inside.pipelines.ok.0) in
     observable-observed c.self.inside.instruments.items ps c.args.observations.now c.args.reader c.index_mut.result.now (get-at ps c.args.reader c.index_mut.result.now inside c.index_mut.ensures.value) c.self.invariant.typed
-    (subst (λ is. All (IsTaken is) c.args.observations.now) c.deref.ensures.value c.in_default.ensures.taken)
-    (subst (λ is. observations_refusal is (map observed_of c.args.observations.now) ≡ None) c.deref.ensures.value c.in_default.ensures.fits)
+    (subst (λ is. All (IsTaken is) c.args.observations.now) c.deref.ensures.value c.in_ok-check_observations.ensures.taken)
+    (subst (λ is. observations_refusal is (map observed_of c.args.observations.now) ≡ None) c.deref.ensures.value c.in_ok-check_observations.ensures.fits)
 
 -- the reader is there, the observations are good, and what it gives is collected
 at : (c : After-collect) → slice_get c.self.inside.pipelines.items c.args.reader ≡ Some c.index_mut.result.now
@@ -63,13 +54,13 @@ at-part : (c : After-collect) → slice_get (map part_of c.self.inside.pipelines
 at-part c = slice_get-map part_of c.self.inside.pipelines.items c.args.reader ∙ ap (option_map part_of) (at c)
 
 good : (c : After-collect) → observations_refusal c.self.inside.instruments.items (map observed_of c.args.observations.now) ≡ None
-good c = ap (λ is. observations_refusal is (map observed_of c.args.observations.now)) (sym c.deref.ensures.value) ∙ c.in_default.ensures.fits
+good c = ap (λ is. observations_refusal is (map observed_of c.args.observations.now)) (sym c.deref.ensures.value) ∙ c.in_ok-check_observations.ensures.fits
 
 left : (c : After-collect) → OnOk c.collect.result (map part_of (set c.self.inside.pipelines.items c.args.reader c.collect.new.self) ≡ changed_at c.args.reader (part_after_call 0 (model.Call.Collect c.args.reader c.args.now (map observed_of c.args.observations.now))) (map part_of c.self.inside.pipelines.items))
-left c = OnOk-weaker c.collect.result (λ all. set-seen _ c.self.inside.pipelines.items c.args.reader c.index_mut.result.now c.collect.new.self (at c) (all c.args.reader)) c.collect.ensures.ok
+left c = on_ok_weaker c.collect.result (λ all. set-seen _ c.self.inside.pipelines.items c.args.reader c.index_mut.result.now c.collect.new.self (at c) (all c.args.reader)) c.collect.ensures.ok
 
 same : (c : After-collect) → OnErr c.collect.result (map part_of (set c.self.inside.pipelines.items c.args.reader c.collect.new.self) ≡ map part_of c.self.inside.pipelines.items)
-same c = OnErr-weaker c.collect.result (λ unmade. set-unseen c.self.inside.pipelines.items c.args.reader c.index_mut.result.now c.collect.new.self (at c) unmade) c.collect.ensures.err
+same c = on_err_weaker c.collect.result (λ unmade. set-unseen c.self.inside.pipelines.items c.args.reader c.index_mut.result.now c.collect.new.self (at c) unmade) c.collect.ensures.err
 
 pub invariant_of-self : goal.invariant_of-self
 invariant_of-self c =

@@ -21,11 +21,11 @@ pub returns-in-Some-clause-step : goal.returns-in-Some-clause-step
 returns-in-Some-clause-step c = rw (← c.self.view_is) (meter-known (state_in c.self.inside) c.args.scope.now c.in-Some.number c.if-self.false (sym c.get_index_of.ensures.index ∙ c.in-Some.is))
 
 -- one that is known was found
-pub returns-in_err-copy_scope-clause-known : goal.returns-in_err-copy_scope-clause-known
-returns-in_err-copy_scope-clause-known c = rw (← c.self.view_is) (λ t. absurd (true≢false (sym t ∙ meter-unknown c.self.inside.meters.keys c.args.scope.now (sym c.get_index_of.ensures.index ∙ c.in_default.is))))
+pub returns-in_err-copied-clause-known : goal.returns-in_err-copied-clause-known
+returns-in_err-copied-clause-known c = rw (← c.self.view_is) (λ t. absurd (true≢false (sym t ∙ meter-unknown c.self.inside.meters.keys c.args.scope.now (sym c.get_index_of.ensures.index ∙ c.in_default.is))))
 
-pub returns-in_err-copy_scope-clause-step : goal.returns-in_err-copy_scope-clause-step
-returns-in_err-copy_scope-clause-step c =
+pub returns-in_err-copied-clause-step : goal.returns-in_err-copied-clause-step
+returns-in_err-copied-clause-step c =
     let old : State = state_in c.self.inside in
     rw (← c.self.view_is) (λ views. memory-result (λ n. model.Reply.Meter n) views old old (model.Call.Meter c.args.scope.now) c.from_residual.result refl (search rules) refl refl)
 
@@ -42,13 +42,16 @@ returns-in_err-number-clause-step c =
     rw (← c.self.view_is) (λ views. memory-result (λ n. model.Reply.Meter n) views old _ (model.Call.Meter c.args.scope.now) c.from_residual-in_err-number.result refl (search rules) refl (ap (λ ms. record old { shared = record old.shared { meters = ms } }) (same c)))
 
 -- a new scope is added at the end
+scope-copied : (c : In_ok-number) → c.in_ok-copied.copied ≡ c.args.scope.now
+scope-copied c = search rules
+
 first : (c : In_ok-number) → c.in_ok-number.number ≡ position_or_len (scope_eq c.args.scope.now) c.self.inside.meters.keys
-first c = c.in_ok-number.ensures.index ∙ ap (λ s. position_or_len (scope_eq s) c.self.inside.meters.keys) c.in_ok-copy_scope.ensures.copy
+first c = c.in_ok-number.ensures.index ∙ ap (λ s. position_or_len (scope_eq s) c.self.inside.meters.keys) (scope-copied c)
 
 added : (c : In_ok-number) → c.insert_full.new.self.keys ≡ with_meter c.args.scope.now c.self.inside.meters.keys
 added c =
     let keys : List InstrumentationScope = c.self.inside.meters.keys in
-    c.in_ok-number.ensures.keys ∙ (ap (λ s. cond (list_any (scope_eq s) keys) keys (keys ++ s ∷ [])) c.in_ok-copy_scope.ensures.copy ∙ ap (λ b. cond b keys (keys ++ c.args.scope.now ∷ [])) (sym (has_scope-flip c.args.scope.now keys)))
+    c.in_ok-number.ensures.keys ∙ (ap (λ s. cond (list_any (scope_eq s) keys) keys (keys ++ s ∷ [])) (scope-copied c) ∙ ap (λ b. cond b keys (keys ++ c.args.scope.now ∷ [])) (sym (has_scope-flip c.args.scope.now keys)))
 
 pub invariant_of-self-2 : goal.invariant_of-self-2
 invariant_of-self-2 c =
