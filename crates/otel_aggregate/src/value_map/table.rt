@@ -131,15 +131,8 @@ fn weight_shown<A: Aggregator>(slots: &Slab<Slot<A>>, number: usize, every: bool
     ensures { (s : AttributeSet) → result ≡ points_total (map point_of_entry (filter (λ entry. every || entry.updated) (entry_at (look_in A.meaning slots.now) (s, number) ∷ []))) }
 {
     match slots.get(number) {
-        None => 0,
-        Some(slot) => {
-            let is_shown = every || slot.updated;
-            if is_shown {
-                slot.aggregator.weight()
-            } else {
-                0
-            }
-        }
+        Some(slot) if every || slot.updated => slot.aggregator.weight(),
+        _ => 0,
     }
 }
 
