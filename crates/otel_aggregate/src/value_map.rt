@@ -1,6 +1,6 @@
 //! A bounded map from sets of attributes to aggregators.
 
-ghost use Rattle.std.specs.Prelude.{◌≡◌, ◌<◌, ◌-◌, ◌+◌, ◌*◌, ◌≤◌, ◌^◌, ◌++◌, [], true, false, is_some, length, map, None, Some, IsSome, IfSome, OnOk, OnErr, IfOk, IsOk, IfErr, IsOkUnless, IsTrue, ℕ};
+ghost use Rattle.std.specs.Prelude.{◌≡◌, ◌<◌, ◌-◌, ◌+◌, ◌*◌, ◌≤◌, ◌^◌, ◌++◌, [], true, false, is_some, length, map, None, Some, IsSome, IfSome, OnOk, OnErr, IfOk, IsOk, IfErr, IsOkUnless, IsTrue};
 ghost use Rattle.std.specs.List.{AllByRecursion};
 ghost use Rattle.std.specs.Option.{option_copied, option_map};
 ghost use Rattle.otel_common.specs.Canonical.{canon};
@@ -223,11 +223,11 @@ impl<A: Aggregator> ValueMap<A> {
         ensures given { self.new.given ≡ self.old.given ++ self.old.spelling }
         ensures spent { self.new.pending ≡ None }
     {
-        if let Pending::At(number) = self.pending {
-            self.pending = Pending::Nothing;
-            return number;
-        }
-        self.place_new()
+        let Pending::At(number) = self.pending else {
+            return self.place_new();
+        };
+        self.pending = Pending::Nothing;
+        number
     }
 
     /// Does what `place` does, out of line, as few records are for a set that has no entry.
@@ -422,7 +422,7 @@ impl<A: Aggregator> ValueMap<A> {
         value: A::PreComputedValue,
         list: &HashedSet,
         attributes: &[KeyValue],
-    ) -> Result<(), AllocError>
+    ) -> Result<(), Fault>
         requires list { list.now.key ≡ attributes.now }
         requires unknown { knows attributes.now (known_of self.old) ≡ false }
         ensures ok { OnOk result (known_of self.new ≡ measured_list attributes.now (A.sample value) (known_of self.old)) }
@@ -430,15 +430,12 @@ impl<A: Aggregator> ValueMap<A> {
         ensures err { OnErr result (known_of self.new ≡ known_of self.old) }
         ensures spent { self.new.pending ≡ None }
         ensures placed { IsTrue (is_placed (canon attributes.now) self.old.state.table.entries) → IsOk result }
+        ensures only_memory { IsOkUnless result Fault.OutOfMemory }
     {
         let overflow = self.overflow();
-        match self.prepare_unknown(list, None, attributes, overflow) {
-            Ok(()) => {
-                self.commit(value);
-                Ok(())
-            }
-            Err(_) => Err(AllocError),
-        }
+        self.prepare_unknown(list, None, attributes, overflow)?;
+        self.commit(value);
+        Ok(())
     }
 
     /// The number of the overflow entry, if it is there and the limit is reached, and if the set that it is looked up by

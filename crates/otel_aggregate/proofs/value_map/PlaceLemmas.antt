@@ -1,5 +1,5 @@
 -- Where a record's entry is, once its set has a place.
-use Rattle.std.proofs.Common.{ℕ, ◌+◌, ◌-◌, ◌^◌, ◌<◌, ◌≡◌, List, [], ◌∷◌, ◌++◌, nat_lt, Bool, true, false, cond, not, ◌||◌, Option, Some, None, append-nil, refl, ap, arith, subst, sym, ◌∙◌}
+use Rattle.std.proofs.Common.{ℕ, ◌-◌, ◌^◌, ◌<◌, ◌≡◌, List, [], ◌∷◌, ◌++◌, nat_lt, Bool, true, false, cond, not, ◌||◌, Option, Some, None, append-nil, refl, ap, arith, subst, sym, ◌∙◌}
 use Rattle.std.specs.Map.{lookup, keys_of}
 use Rattle.std.specs.Option.{IfSome}
 use Rattle.std.proofs.lemmas.Bool.{or_parts}

@@ -1,7 +1,7 @@
 -- What `retain` leaves in slots.
 use Rattle.std.proofs.Common.{ℕ, zero, suc, ◌+◌, ◌≡◌, Bool, true, false, cond, List, [], ◌∷◌, Option, Some, None, MutBor, get_or, refl, sym, ap, subst, ◌∙◌, arith}
 use Rattle.std.specs.Option.{option_map}
-use Rattle.slab.specs.Slab.{Slab, CalledAt, RetainsFrom}
+use Rattle.slab.specs.Slab.{Slab, RetainsFrom}
 use Rattle.otel_model_stream.specs.Folds.{Fold}
 use Rattle.otel_aggregate.specs.value_map.Slots.{Kept, kept_of, look_in}
 use Rattle.otel_aggregate.specs.declared.value_map.slots.Slot.{Slot}

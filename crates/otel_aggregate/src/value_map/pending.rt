@@ -1,6 +1,6 @@
 //! A prepared record or bind, and what is made for it in advance.
 
-ghost use Rattle.std.specs.Prelude.{◌≡◌, ◌&&◌, true, false, cond, None, Some, IfSome, IfOk, IsOk, OnOk, IsOkUnless, IsTrue, is_some};
+ghost use Rattle.std.specs.Prelude.{◌≡◌, ◌&&◌, true, false, None, Some, IfSome, IfOk, IsOk, OnOk, IsOkUnless, IsTrue, is_some};
 ghost use Rattle.std.specs.Option.{IfNone, option_copied};
 ghost use Rattle.otel_common.specs.Canonical.{canon};
 ghost use Rattle.otel_common.specs.Equality.{set_eq};

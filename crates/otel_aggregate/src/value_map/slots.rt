@@ -49,7 +49,7 @@ impl<A: Aggregator> Slot<A> {
     }
 
     /// Forgets the records.
-    pub fn forget(&mut self)
+    fn forget(&mut self)
         ensures { kept_of A.meaning self.new ≡ forgotten (kept_of A.meaning self.old) }
     {
         self.updated = false;
@@ -58,7 +58,7 @@ impl<A: Aggregator> Slot<A> {
 
     /// Forgets the records if evictions spare the slot, and returns whether they do: it was updated since it was made or
     /// last reset, a live handle holds it, or it lasts.
-    pub fn settle(&mut self) -> bool
+    fn settle(&mut self) -> bool
         ensures { cond result (Some (kept_of A.meaning self.new)) None ≡ left_of (Some (kept_of A.meaning self.old)) }
     {
         if self.updated || self.handles > 0 || self.lasting {

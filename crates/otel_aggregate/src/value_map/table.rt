@@ -1,8 +1,8 @@
 //! Entries in slots, found by their sets or by the lists that admitted them.
 
-ghost use Rattle.std.specs.Prelude.{◌≡◌, ◌<◌, ◌≤◌, ◌+◌, ◌-◌, ◌*◌, ◌^◌, ◌∷◌, [], ◌++◌, ◌||◌, ◌&&◌, None, Some, IfOk, IsOk, OnOk, IsOkUnless, IfSome, map, filter, is_some, length, cond, nat_eq, nat_le, false, true, ℕ};
+ghost use Rattle.std.specs.Prelude.{◌≡◌, ◌<◌, ◌≤◌, ◌+◌, ◌-◌, ◌*◌, ◌^◌, ◌∷◌, [], ◌++◌, ◌||◌, ◌&&◌, None, Some, IfOk, OnOk, IsOkUnless, IfSome, map, filter, is_some, length, cond, nat_le, false, true};
 ghost use Rattle.std.specs.Option.{IfNone, option_copied, option_map};
-ghost use Rattle.std.specs.Map.{lookup, keys_of, values_of};
+ghost use Rattle.std.specs.Map.{lookup, keys_of};
 ghost use Rattle.std.specs.Set.{is_member};
 ghost use Rattle.slab.specs.Slab.{slab_len};
 ghost use Rattle.otel_common.specs.Canonical.{canon};
@@ -11,7 +11,7 @@ ghost use Rattle.otel_model_stream.specs.Folds.{wrap};
 ghost use Rattle.otel_model_stream.specs.Sets.{AttributeSet, allowed_part, none_set, over_set};
 ghost use Rattle.otel_model_stream.specs.Observed.{fold_in};
 ghost use Rattle.otel_model_stream.specs.Totals.{points_total};
-ghost use Rattle.otel_model_stream.specs.Entries.{point_of_entry, new_entry, has, write, take_handle, drop_handle, at_entry, evicted_table, drained_table, points, number_counted};
+ghost use Rattle.otel_model_stream.specs.Entries.{point_of_entry, has, write, take_handle, drop_handle, at_entry, evicted_table, drained_table, points, number_counted};
 ghost use Rattle.std.specs.List.{AllByRecursion, IsDistinct};
 ghost use Rattle.otel_aggregate.specs.value_map.Keyed.{Fits, found, IsNew, IsSpelling, with_spelling};
 ghost use Rattle.otel_aggregate.specs.value_map.Numbers.{number_of, handles_at, AreNamed, AreNumbered, KeepLeft, IsNumberOf, is_number};
@@ -131,15 +131,8 @@ fn weight_shown<A: Aggregator>(slots: &Slab<Slot<A>>, number: usize, every: bool
     ensures { (s : AttributeSet) → result ≡ points_total (map point_of_entry (filter (λ entry. every || entry.updated) (entry_at (look_in A.meaning slots.now) (s, number) ∷ []))) }
 {
     match slots.get(number) {
-        None => 0,
-        Some(slot) => {
-            let is_shown = every || slot.updated;
-            if is_shown {
-                slot.aggregator.weight()
-            } else {
-                0
-            }
-        }
+        Some(slot) if every || slot.updated => slot.aggregator.weight(),
+        _ => 0,
     }
 }
 

@@ -10,19 +10,19 @@ use Rattle.otel_aggregate.proofs.value_map.PlaceLemmas.{target-measured}
 use Rattle.otel_aggregate.proofs.value_map.PlanLemmas.{unknown-some}
 use Rattle.otel_aggregate.proofs.value_map.ValueMap.measure_unknown.Goals as goal
 
-pub returns-in-Ok-clause-ok : goal.returns-in-Ok-clause-ok
-returns-in-Ok-clause-ok g c =
+pub returns-clause-ok : goal.returns-clause-ok
+returns-clause-ok g c =
     let h = c.args.self.now in
     let l = c.args.attributes.now in
     let v = g.A.Aggregator.sample c.args.value in
     let some : set_eq l none_set ≡ false = unknown-some l (known_of h) c.requires.unknown in
     let target : AttributeSet = target_of c.overflow-overflow.result l h.state.table.entries in
     let state : c.commit.new.self.state ≡ measured_map (canon l) v h.state =
-    c.commit.ensures.measured target (c.in-Ok.ensures.ready ∙ ap (λ (x : List KeyValue). Some (target_of c.overflow-overflow.result x h.state.table.entries)) c.requires.list)
+    c.commit.ensures.measured target (c.in_ok-prepare_unknown.ensures.ready ∙ ap (λ (x : List KeyValue). Some (target_of c.overflow-overflow.result x h.state.table.entries)) c.requires.list)
     ∙ ap (λ (m : MapState). measured_map target v m) c.prepare_unknown.ensures.same
     ∙ target-measured c.overflow-overflow.result l v h some c.overflow-overflow.ensures in
     let given : c.commit.new.self.given ≡ h.given ++ spelling_of l h.state =
     c.commit.ensures.given
     ∙ ap (λ (ls : List (List KeyValue)). ls ++ c.prepare_unknown.new.self.spelling) c.prepare_unknown.ensures.given
-    ∙ ap (λ (ls : List (List KeyValue)). h.given ++ ls) (c.in-Ok.ensures.spelling ∙ ap (λ (x : List KeyValue). spelling_of x h.state) c.requires.list) in
+    ∙ ap (λ (ls : List (List KeyValue)). h.given ++ ls) (c.in_ok-prepare_unknown.ensures.spelling ∙ ap (λ (x : List KeyValue). spelling_of x h.state) c.requires.list) in
     λ i. record { map_state = state i; given = given i }

@@ -1,6 +1,6 @@
-use Rattle.std.proofs.Common.{◌≡◌, Bool, true, false, cond, None, Option, nat_eq, refl, rules}
+use Rattle.std.proofs.Common.{◌≡◌, Bool, true, false, cond, None, nat_eq, refl, rules}
 use Rattle.std.specs.Option.{option_map}
-use Rattle.otel_aggregate.specs.value_map.Slots.{Kept, forgotten}
+use Rattle.otel_aggregate.specs.value_map.Slots.{forgotten}
 use Rattle.otel_aggregate.proofs.value_map.RetainLemmas.{retained-look}
 use Rattle.otel_aggregate.proofs.value_map.slots.clear_others.Goals as goal
 

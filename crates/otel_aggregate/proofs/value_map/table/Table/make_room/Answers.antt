@@ -1,6 +1,6 @@
-use Rattle.std.proofs.Common.{◌∙◌, ap, sym, subst, List}
+use Rattle.std.proofs.Common.{◌∙◌, ap, sym, subst}
 use Rattle.otel_aggregate.specs.value_map.Keyed.{Slotted, IsConsistent}
-use Rattle.otel_aggregate.specs.value_map.Slots.{Look, Keyed, look_in, table_at}
+use Rattle.otel_aggregate.specs.value_map.Slots.{Look, look_in, table_at}
 use Rattle.otel_aggregate.proofs.value_map.table.Table.make_room.Goals as goal
 
 pub invariant_of-self : goal.invariant_of-self
