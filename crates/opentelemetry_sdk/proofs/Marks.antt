@@ -61,14 +61,6 @@ marked-more places ns s p lt marked n = there-set places s n (Some p) lt ∙ (go
         or-false true = refl
         or-false false = refl
 
--- one that has a place already
-pub marked-again : (places : List (Option ℕ)) (ns : List ℕ) (s p : ℕ) → has_number s ns ≡ true → AreMarked places ns → AreMarked (set places s (Some p)) ns
-marked-again places ns s p there marked n = there-set places s n (Some p) (marked-inside places ns s marked there) ∙ go (s == n) refl
-  where
-    go : (b : Bool) → (s == n) ≡ b → cond b true (is_there (slice_get places n)) ≡ has_number n ns
-    go true e = sym (ap (λ k. has_number k ns) (sym (eqb-true s n e)) ∙ there)
-    go false e = marked n
-
 -- ======== the last one goes ========
 once-less : (ns : List ℕ) (s : ℕ) → AreFedOnce (ns ++ s ∷ []) → AreFedOnce ns × (has_number s ns ≡ false)
 once-less [] s all = (tt, refl)

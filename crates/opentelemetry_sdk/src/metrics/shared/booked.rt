@@ -340,9 +340,7 @@ impl<C: Account, S: Account> Booked<C, S> {
             return Err(Fault::UseWorker);
         }
         check_book(self.accepted)?;
-        if let Err(fault) = make(&mut self.core, made) {
-            return Err(fault);
-        }
+        make(&mut self.core, made)?;
         enter(&mut self.records, &mut self.values, worker, made.bits());
         self.accepted += 1;
         Ok(())
