@@ -11,7 +11,6 @@ pub mod KnownRuns
 pub mod Lists
 pub mod Marks
 pub mod Reached
-pub mod Runs
 pub mod SeriesLemmas
 pub mod Sound
 pub mod StepLemmas

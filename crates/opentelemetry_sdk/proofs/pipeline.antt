@@ -14,7 +14,6 @@ pub mod PipelinesLemmas
 pub mod Meets
 pub mod Places
 pub mod Records
-pub mod Shows
 pub mod ViewLemmas
 pub mod Writes
 pub mod Handles

@@ -1,8 +1,7 @@
 use Rattle.std.proofs.Common.{◌∙◌, arith, map, subst}
 use Rattle.std.proofs.lemmas.List.{take_all}
-use Rattle.opentelemetry_sdk.proofs.KnownRuns.{KnownRun, known-more, each-known}
+use Rattle.opentelemetry_sdk.proofs.KnownRuns.{KnownRun, run-more, known-more, each-known}
 use Rattle.opentelemetry_sdk.proofs.Reached.{reaches-more}
-use Rattle.opentelemetry_sdk.proofs.Runs.{run-more}
 use Rattle.opentelemetry_sdk.proofs.provider_core.Core.run.Goals as goal
 
 pub loop-call-preserved : goal.loop-call-preserved
