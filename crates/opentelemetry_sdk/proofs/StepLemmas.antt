@@ -12,7 +12,7 @@ use Rattle.otel_model.specs.Demands.{StreamSpec, Views, is_good}
 use Rattle.otel_model.specs.Machine as machine
 use Rattle.otel_model.specs.Refusals.{meter_refusal, record_refusal}
 use Rattle.otel_model.specs.Sent.{has_scope}
-use Rattle.otel_model.specs.State.{ReaderPart, InstrumentState, LiveHandle, Shared, State}
+use Rattle.otel_model.specs.State.{ReaderPart, InstrumentState, LiveHandle, State}
 use Rattle.otel_model.specs.Steps.{Step, number_from, reply_by, after_by}
 use Rattle.opentelemetry_sdk.specs.pipeline.Pipelines.{Piped, part_of}
 use Rattle.opentelemetry_sdk.proofs.pipeline.Builds.{any-position, position-cons}
@@ -21,7 +21,7 @@ use Rattle.opentelemetry_sdk.proofs.Asked.{built-answered}
 use Rattle.opentelemetry_sdk.proofs.Stepped.{memory-step}
 use Rattle.opentelemetry_sdk.proofs.Typed.{typed-feeds}
 use Rattle.opentelemetry_sdk.specs.Correspondence.{reply_from}
-use Rattle.opentelemetry_sdk.specs.States.{IsFault, IsScopeOf, IsNoMeter, IsGoodIn, AreAsked, FeedType, IsTakenBy, AreTyped}
+use Rattle.opentelemetry_sdk.specs.States.{IsScopeOf, IsGoodIn, AreAsked, FeedType, IsTakenBy, AreTyped}
 
 -- ======== meters ========
 scope_eq-flip : (a b : InstrumentationScope) → scope_eq a b ≡ scope_eq b a
@@ -137,12 +137,6 @@ module _ (n : ℕ) (v : model.Number) (is shown : List InstrumentState) (same : 
   taken-feeds ps lent back typed = typed-feeds n v is taken.instrument (map part_of lent) there taken.typed (subst (λ qs. AreTyped is (map part_of qs)) (sym back) typed)
 
 -- ======== whole calls ========
--- a build of a meter that isn't there
-pub no_meter-fault : (s : Shared) (meter : Option ℕ) (f : Fault) → IsNoMeter s.meters meter f → IsFault (meter_refusal s meter) f
-no_meter-fault s meter f none =
-    let P : Fault → Type 0 = λ g. IsFault (meter_refusal s meter) g in
-    subst P (sym none.is) (none.unknown s refl)
-
 position-first : {X : Type 0} (p : X → Bool) (xs : List X) (n : ℕ) → position p xs ≡ Some n → n ≡ position_or_len p xs
 position-first p [] n e = absurd (cc)
 position-first p (x ∷ xs) n e = next (p x) (position p xs) (λ m q. position-first p xs m q) (sym (position-cons p x xs) ∙ e)

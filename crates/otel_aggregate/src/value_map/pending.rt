@@ -40,16 +40,14 @@ impl Pending {
     pub fn give_up(&mut self)
         ensures { self.new ≡ Nothing }
     {
-        if matches!(self, Pending::New(_, _)) {
-            self.give_up_new();
-        } else {
-            *self = Pending::Nothing;
+        if !matches!(self, Pending::Nothing) {
+            self.clear();
         }
     }
 
-    /// Does what `give_up` does, out of line, as most records are for sets that have an entry.
+    /// Does what `give_up` does, out of line, as mostly nothing is prepared.
     #[inline(never)]
-    fn give_up_new(&mut self)
+    fn clear(&mut self)
         ensures { self.new ≡ Nothing }
     {
         *self = Pending::Nothing;
