@@ -14,12 +14,19 @@ use crate::provider_core::instrument_checks::{
     validate_bucket_boundaries, validate_instrument_name, validate_instrument_unit,
 };
 use indexmap::IndexSet;
-use otel_aggregate::values::is_signed;
 use otel_common::faults::Fault;
 use otel_common::scopes::InstrumentationScope;
 use otel_data::numbers::NumberValue;
 use otel_stream::instrument::InstrumentKind;
 use otel_stream::observation::Observed;
+
+/// Whether a value is of type `i64`.
+#[inline]
+fn is_signed(value: NumberValue) -> bool
+    ensures { result ≡ is_signed_value value }
+{
+    matches!(value, NumberValue::I64(_))
+}
 
 /// Whether the bounds of an instrument are good. Only those of a histogram are checked.
 fn has_good_bounds(about: &About<'_>) -> bool
