@@ -28,8 +28,8 @@ new_aggregate aggregate is_monotonic allow resets limit start = record {
   start = start;
 }
 
--- whether its numbers are signed; the stream; its live handles; the set of the prepared record or bind, if any; whether
--- room is made for a handle; whether each collection empties it, as it does observed sums; and what a stream of these
+-- whether its numbers are signed; the stream; its live handles; the set of the entry that the prepared record or bind
+-- uses, if any; whether room is made for a handle; whether each collection empties it, as it does observed sums; and what a stream of these
 -- reported in the last collection. A stream of observed sums has no handles
 pub record AggregateContents : Type 0 where
   pub is_signed : Bool
@@ -100,4 +100,4 @@ stream_after_unbind h s = record s { state = unbind_at (held_by h s.live) s.stat
 
 -- with a record or a bind of these attributes prepared, and room for a handle
 abbrev pub ready_to_bind : List KeyValue → AggregateContents → AggregateContents
-ready_to_bind l s = record s { pending = Some (set_of s.state.allow l); room = true }
+ready_to_bind l s = record s { pending = Some (bound_to (set_of s.state.allow l) s.state.map_state); room = true }

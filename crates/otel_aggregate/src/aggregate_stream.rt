@@ -6,7 +6,7 @@ ghost use Rattle.otel_common.specs.Temporalities.{resets};
 ghost use Rattle.otel_model_stream.specs.Sets.{set_of};
 ghost use Rattle.otel_model_stream.specs.Folds.{Last, wrap};
 ghost use Rattle.otel_model_stream.specs.Machine.{without_none_handles};
-ghost use Rattle.otel_model_stream.specs.Maps.{new_map};
+ghost use Rattle.otel_model_stream.specs.Maps.{new_map, bound_to};
 ghost use Rattle.otel_model_stream.specs.Totals.{points_total, size};
 ghost use Rattle.otel_aggregate.specs.Any.{aggregate_of, is_monotonic_of, drains_of, amount_of, any_after_commit, any_after_none, any_after_record, is_taken, is_signed_value, any_with_room, any_after_bind, any_after_update, is_updated, any_after_unbind, metrics_now, any_points, any_after_collection, draft_of, IsLike, with_draft};
 ghost use Rattle.otel_aggregate.specs.Kept.{IsWithin, state_of};
@@ -202,7 +202,7 @@ impl AggregateStream {
         ensures number { self.new.is_signed ≡ self.old.is_signed }
         ensures drains { self.new.drains ≡ self.old.drains }
         ensures reported { self.new.reported ≡ self.old.reported }
-        ensures ready { OnOk result (self.new.pending ≡ Some (set_of self.old.state.allow given.now)) }
+        ensures ready { OnOk result (self.new.pending ≡ Some (bound_to (set_of self.old.state.allow given.now) self.old.state.map_state)) }
         ensures refused { OnErr result (self.new.pending ≡ None) }
         ensures known { IsTrue (is_known self.old.state.allow given.now self.old.state.map_state) → IsOk result }
     {

@@ -11,7 +11,7 @@ ghost use Rattle.otel_model_stream.specs.Observed.{fold_in};
 ghost use Rattle.otel_model_stream.specs.Folds.{wrap};
 ghost use Rattle.otel_model_stream.specs.Sets.{AttributeSet, allowed_part, none_set, set_of};
 ghost use Rattle.otel_model_stream.specs.Totals.{points_total};
-ghost use Rattle.otel_aggregate.specs.value_map.Contents.{known_of, target_of, IsOverflowAt};
+ghost use Rattle.otel_aggregate.specs.value_map.Contents.{known_of, IsOverflowAt};
 ghost use Rattle.otel_aggregate.specs.value_map.Faults.{IsBindFault};
 ghost use Rattle.otel_aggregate.specs.value_map.Numbers.{number_of, is_number, handles_at, AreNamed, AreNumbered, spelling_of, is_placed, KeepNumbers, KeepLeft};
 ghost use Rattle.otel_aggregate.specs.value_map.Slots.{HasForm, copies};
@@ -81,7 +81,7 @@ impl<A: Aggregator> Model for ValueMap<A> {
       state = record { limit = m.limit; empty = A.empty m.config; table = m.table.table };
       numbers = m.table.numbers;
       given = keys_of m.table.aliases;
-      pending = pending_in m.table.numbers m.pending;
+      pending = pending_in (nat_lt m.count m.limit) m.table.numbers m.pending;
       spelling = spelling_in m.pending;
     } };
 
@@ -149,7 +149,7 @@ impl<A: Aggregator> ValueMap<A> {
         ensures same { self.new.state ≡ self.old.state }
         ensures numbers { self.new.numbers ≡ self.old.numbers }
         ensures given { self.new.given ≡ self.old.given }
-        ensures ready { OnOk result (self.new.pending ≡ Some (canon list.now.key)) }
+        ensures ready { OnOk result (self.new.pending ≡ Some (bound_to (canon list.now.key) self.old.state)) }
         ensures spelling { OnOk result (self.new.spelling ≡ spelling_of list.now.key self.old.state) }
         ensures refused { OnErr result (self.new.pending ≡ None) }
         ensures known { SucceedsIfKnown list.now.key (known_of self.old) result }
@@ -160,28 +160,24 @@ impl<A: Aggregator> ValueMap<A> {
             self.pending = Pending::At(number);
             return Ok(());
         }
-        self.prepare_unknown(list, allow, attributes, None)
+        self.prepare_unknown(list, allow, attributes)
             .map_err(|_| AllocError)
     }
 
-    /// Does what `prepare_list` does with a list that, as given, leads to no entry. If `overflow` is the number of the overflow
-    /// entry, and the set has no entry, the record or bind is prepared for the overflow entry itself, and the set isn't
-    /// copied.
+    /// Does what `prepare_list` does with a list that, as given, leads to no entry.
     #[inline(never)]
     fn prepare_unknown(
         &mut self,
         list: &HashedSet,
         allow: Option<&AllowedKeys>,
         attributes: &[KeyValue],
-        overflow: Option<usize>,
     ) -> Result<(), Fault>
         requires list { list.now.key ≡ allowed_part (option_copied allow) attributes.now }
         requires unknown { knows list.now.key (known_of self.old) ≡ false }
-        requires overflow { IfSome overflow (IsOverflowAt self.old) }
         ensures same { self.new.state ≡ self.old.state }
         ensures numbers { self.new.numbers ≡ self.old.numbers }
         ensures given { self.new.given ≡ self.old.given }
-        ensures ready { OnOk result (self.new.pending ≡ Some (target_of overflow list.now.key self.old.state.table.entries)) }
+        ensures ready { OnOk result (self.new.pending ≡ Some (bound_to (canon list.now.key) self.old.state)) }
         ensures spelling { OnOk result (self.new.spelling ≡ spelling_of list.now.key self.old.state) }
         ensures refused { OnErr result (self.new.pending ≡ None) }
         ensures placed { IsTrue (is_placed (canon list.now.key) self.old.state.table.entries) → IsOk result }
@@ -189,6 +185,7 @@ impl<A: Aggregator> ValueMap<A> {
     {
         self.pending.give_up();
         let is_few = self.count < self.limit;
+        let overflow = self.overflow();
         let plan = plan(
             self.alloc,
             &self.table,
@@ -268,13 +265,14 @@ impl<A: Aggregator> ValueMap<A> {
     /// is all, and it takes no memory; the same holds if there are no attributes. Otherwise it sorts references to them
     /// and looks these up, unless the keys rise as given; attributes are copied only for a set without an entry. Up to 16
     /// keys are sorted without memory. More are sorted with memory; if it is refused, a set that has an entry is still
-    /// found, by going over all sets. Attributes that have their hash already are not hashed again.
+    /// found, by going over all sets. Attributes that have their hash already are not hashed again. Past the limit, once
+    /// the overflow entry is there, nothing is copied.
     #[inline(always)]
     pub(crate) fn prepare(&mut self, given: &GivenAttributes) -> Result<(), AllocError>
         ensures same { self.new.state ≡ self.old.state }
         ensures numbers { self.new.numbers ≡ self.old.numbers }
         ensures given { self.new.given ≡ self.old.given }
-        ensures ready { OnOk result (self.new.pending ≡ Some (canon given.now)) }
+        ensures ready { OnOk result (self.new.pending ≡ Some (bound_to (canon given.now) self.old.state)) }
         ensures spelling { OnOk result (self.new.spelling ≡ spelling_of given.now self.old.state) }
         ensures refused { OnErr result (self.new.pending ≡ None) }
         ensures known { SucceedsIfKnown given.now (known_of self.old) result }
@@ -298,7 +296,7 @@ impl<A: Aggregator> ValueMap<A> {
         ensures same { self.new.state ≡ self.old.state }
         ensures numbers { self.new.numbers ≡ self.old.numbers }
         ensures given { self.new.given ≡ self.old.given }
-        ensures ready { OnOk result (self.new.pending ≡ Some (set_of (Some allow.now) attributes.now)) }
+        ensures ready { OnOk result (self.new.pending ≡ Some (bound_to (set_of (Some allow.now) attributes.now) self.old.state)) }
         ensures spelling { OnOk result (self.new.spelling ≡ spelling_of (allowed_part (Some allow.now) attributes.now) self.old.state) }
         ensures refused { OnErr result (self.new.pending ≡ None) }
         ensures known { SucceedsIfKnown (allowed_part (Some allow.now) attributes.now) (known_of self.old) result }
@@ -432,14 +430,13 @@ impl<A: Aggregator> ValueMap<A> {
         ensures placed { IsTrue (is_placed (canon attributes.now) self.old.state.table.entries) → IsOk result }
         ensures only_memory { IsOkUnless result Fault.OutOfMemory }
     {
-        let overflow = self.overflow();
-        self.prepare_unknown(list, None, attributes, overflow)?;
+        self.prepare_unknown(list, None, attributes)?;
         self.commit(value);
         Ok(())
     }
 
     /// The number of the overflow entry, if it is there and the limit is reached, and if the set that it is looked up by
-    /// is there too. Without it a record past the limit is prepared, with a copy of its set, as any new set is.
+    /// is there too.
     fn overflow(&self) -> Option<usize>
         ensures { IfSome result (IsOverflowAt self.now) }
     {

@@ -9,12 +9,12 @@ use Rattle.otel_common.specs.Equality.{set_eq}
 use Rattle.otel_common.specs.declared.attributes.KeyValue.{KeyValue}
 use Rattle.otel_model_stream.specs.Folds.{Fold, Sample}
 use Rattle.otel_model_stream.specs.Sets.{AttributeSet, none_set, over_set}
-use Rattle.otel_model_stream.specs.Entries.{Entry, Table, new_entry, is_of, has, number_counted, entries_with_place, entry_for, place, at_entry, write}
-use Rattle.otel_model_stream.specs.Maps.{MapState, with_place, measured_map, measured_list, bound_to}
+use Rattle.otel_model_stream.specs.Entries.{Entry, Table, new_entry, is_of, has, number_counted, entries_with_place, entry_for, place, at_entry, write, take_handle}
+use Rattle.otel_model_stream.specs.Maps.{MapState, with_place, measured_map, measured_list, bound_map, bound_to}
 use Rattle.otel_aggregate.specs.value_map.Keyed.{Slotted, IsNew}
 use Rattle.otel_aggregate.specs.value_map.Slots.{Kept, entry_of, new_kept}
 use Rattle.otel_aggregate.specs.value_map.Numbers.{Numbers, number_of, KeepNumbers, is_placed, set_named, handles_in, handles_at}
-use Rattle.otel_aggregate.specs.value_map.Contents.{MapContents, IsOverflowAt, IsPlan, IsPlanAt, IsSound, IsReady, pending_in, target_of}
+use Rattle.otel_aggregate.specs.value_map.Contents.{MapContents, IsPlan, IsPlanAt, IsSound, IsReady, pending_in, used_by}
 use Rattle.otel_aggregate.specs.declared.value_map.pending.Pending.{Pending}
 use Rattle.otel_aggregate.specs.declared.value_map.pending.Pending.TheVariants.{Nothing, At, New}
 use Rattle.otel_aggregate.proofs.value_map.CanonicalSets.{some-canon}
@@ -26,12 +26,12 @@ pub record Placing (limit : ℕ) (empty : Fold) (s : AttributeSet) (entries afte
   pub state : after ≡ entries_with_place limit empty s entries
   pub goal : entry_for s after ≡ used
 
+or-true : (b : Bool) → (b || true) ≡ true
+or-true true = refl
+or-true false = refl
+
 has-last : (s : AttributeSet) (entries : List Entry) (e : Entry) → set_eq e.set s ≡ true → has s (entries ++ e ∷ []) ≡ true
 has-last s entries e q = list_any-append (is_of s) entries (e ∷ []) ∙ ap (λ b. has s entries || (b || false)) q ∙ or-true (has s entries)
-  where
-    or-true : (b : Bool) → (b || true) ≡ true
-    or-true true = refl
-    or-true false = refl
 
 module _ (limit : ℕ) (empty : Fold) (s : AttributeSet) (entries : List Entry) where
   -- the set has an entry, or is empty
@@ -82,7 +82,7 @@ pub measured-at : (t after : Slotted) (limit : ℕ) (empty : Fold) (l : List Key
 measured-at t after limit empty l n v plan written aliases =
     let m : MapState = record { limit = limit; empty = empty; table = t.table } in
     let p : IsPlan t (nat_lt (number_counted t.table.entries) limit) l (At n) = plan (nat_lt (number_counted t.table.entries) limit) in
-    let named : Some (set_named n t.numbers) ≡ Some (canon l) = p.pending in
+    let named : Some (set_named n t.numbers) ≡ Some (canon l) = (plan true).pending ∙ ap (λ b. Some (cond b (canon l) over_set)) (or-true (is_placed (canon l) t.table.entries)) in
     let same : set_named n t.numbers ≡ canon l = cc in
     let there = p.sound true refl in
     let number : number_of (canon l) t.numbers ≡ Some n = subst (λ s. number_of s t.numbers ≡ Some n) same there.0 in
@@ -92,20 +92,52 @@ measured-at t after limit empty l n v plan written aliases =
     let given = ap keys_of aliases ∙ sym (append-nil (keys_of t.aliases)) ∙ ap (λ (ls : List (List KeyValue)). keys_of t.aliases ++ ls) p.spelling in
     λ i. record { map_state = sym state i; given = given i }
 
--- a record of the overflow set is one of the list, where the list uses the overflow entry
-pub target-measured : (over : Option ℕ) (l : List KeyValue) (v : Sample) (h : MapContents) → set_eq l none_set ≡ false → IfSome over (IsOverflowAt h) → measured_map (target_of over l h.state.table.entries) v h.state ≡ measured_map (canon l) v h.state
-target-measured None l v h some over = refl
-target-measured (Some n) l v h some over = by (has (canon l) h.state.table.entries) refl
-  where
-    m : MapState
-    m = h.state
+-- ======== the set of the entry that is used ========
+-- a place for it is one for the set itself, and it is its own
+pub record Using (limit : ℕ) (empty : Fold) (s : AttributeSet) (entries : List Entry) (u : AttributeSet) : Type 0 where
+  pub used : used_by (nat_lt (number_counted entries) limit) s entries ≡ u
+  pub place : entries_with_place limit empty u entries ≡ entries_with_place limit empty s entries
+  pub goal : entry_for u (entries_with_place limit empty s entries) ≡ u
 
-    by : (b : Bool) → has (canon l) m.table.entries ≡ b → measured_map (cond (not (has (canon l) m.table.entries)) over_set (canon l)) v m ≡ measured_map (canon l) v m
-    by true e = ap (λ b. measured_map (cond (not b) over_set (canon l)) v m) e
-    by false e =
-        ap (λ b. measured_map (cond (not b) over_set (canon l)) v m) e
-        ∙ measured-by m over_set v over_set (place-there m.limit m.empty over_set m.table.entries over.1)
-        ∙ sym (measured-by m (canon l) v over_set (place-over m.limit m.empty (canon l) m.table.entries (some-canon l some) e over.0 over.1))
+using : (limit : ℕ) (empty : Fold) (s : AttributeSet) (entries : List Entry) → Using limit empty s entries (entry_for s (entries_with_place limit empty s entries))
+using limit empty s entries = by (is_placed s entries) (nat_lt (number_counted entries) limit) (has over_set entries) refl refl refl
+  where
+    to : (after : List Entry) (u : AttributeSet) → Placing limit empty s entries after u → Placing limit empty u entries after u → used_by (nat_lt (number_counted entries) limit) s entries ≡ u → Using limit empty s entries (entry_for s (entries_with_place limit empty s entries))
+    to after u p q e =
+        let is : entry_for s (entries_with_place limit empty s entries) ≡ u = ap (entry_for s) (sym p.state) ∙ p.goal in
+        subst (Using limit empty s entries) (sym is) (record { used = e; place = sym q.state ∙ p.state; goal = ap (entry_for u) (sym p.state) ∙ q.goal })
+
+    apart : (a b : Bool) → (a || b) ≡ false → (a ≡ false) × (b ≡ false)
+    apart a b e = or_parts a b e
+
+    by : (placed few over : Bool) → is_placed s entries ≡ placed → nat_lt (number_counted entries) limit ≡ few → has over_set entries ≡ over → Using limit empty s entries (entry_for s (entries_with_place limit empty s entries))
+    by true few over p f o = to entries s (place-there limit empty s entries p) (place-there limit empty s entries p) (ap (λ b. cond (b || nat_lt (number_counted entries) limit) s over_set) p)
+    by false true over p f o =
+        let q = apart (set_eq s none_set) (has s entries) p in
+        let new = place-admitted limit empty s entries q.0 q.1 f in
+        to _ s new new (λ i. cond (p i || f i) s over_set)
+    by false false true p f o =
+        let q = apart (set_eq s none_set) (has s entries) p in
+        to entries over_set (place-over limit empty s entries q.0 q.1 f o) (place-there limit empty over_set entries o) (λ i. cond (p i || f i) s over_set)
+    by false false false p f o =
+        let q = apart (set_eq s none_set) (has s entries) p in
+        to _ over_set (place-over_made limit empty s entries q.0 q.1 f o) (place-over_made limit empty over_set entries refl o f o) (λ i. cond (p i || f i) s over_set)
+
+pub used-bound : (m : MapState) (s : AttributeSet) → used_by (nat_lt (number_counted m.table.entries) m.limit) s m.table.entries ≡ bound_to s m
+used-bound m s = (using m.limit m.empty s m.table.entries).used
+
+pub used-placed : (m : MapState) (s : AttributeSet) → with_place (bound_to s m) m ≡ with_place s m
+used-placed m s = ap (λ (es : List Entry). record m { table = record m.table { entries = es } }) (using m.limit m.empty s m.table.entries).place
+
+pub used-own : (m : MapState) (s : AttributeSet) → bound_to (bound_to s m) m ≡ bound_to s m
+used-own m s = ap (λ (x : MapState). entry_for (bound_to s m) x.table.entries) (used-placed m s) ∙ (using m.limit m.empty s m.table.entries).goal
+
+-- so a record or a bind of it is one of the set
+pub used-measured : (m : MapState) (s : AttributeSet) (v : Sample) → measured_map (bound_to s m) v m ≡ measured_map s v m
+used-measured m s v = λ i. record (used-placed m s i) { table = at_entry (used-own m s i) (write v) (used-placed m s i).table }
+
+pub used-held : (m : MapState) (s : AttributeSet) → bound_map (bound_to s m) m ≡ bound_map s m
+used-held m s = λ i. record (used-placed m s i) { table = at_entry (used-own m s i) take_handle (used-placed m s i).table }
 
 -- ======== what is prepared ========
 pub sound-nothing : (t : Slotted) (few room : Bool) (p : Pending) → p ≡ Nothing → IsSound t few room p
@@ -115,16 +147,25 @@ sound-nothing t few room p is = subst (IsSound t few room) (sym is) tt
 pub new-prepared : (t : Slotted) (few room : Bool) (p : Pending) (set : AttributeSet) (list : Option (List KeyValue)) → IsSound t few room p → New set list ≡ p → IsReady t few room set list
 new-prepared t few room p set list sound is = subst (IsSound t few room) (sym is) sound
 
-pub new-set : (ns : Numbers) (p : Pending) (set s : AttributeSet) (list : Option (List KeyValue)) → New set list ≡ p → pending_in ns p ≡ Some s → set ≡ s
-new-set ns p set s list is e = let both : Some set ≡ Some s = ap (pending_in ns) is ∙ e in cc
+pub new-set : (few : Bool) (ns : Numbers) (p : Pending) (set s : AttributeSet) (list : Option (List KeyValue)) → New set list ≡ p → pending_in few ns p ≡ Some s → cond few set over_set ≡ s
+new-set few ns p set s list is e = let both : Some (cond few set over_set) ≡ Some s = ap (pending_in few ns) is ∙ e in cc
 
--- which is the set that is prepared, if that has no entry
-pub new-there : (t : Slotted) (few room : Bool) (p : Pending) (s : AttributeSet) → IsSound t few room p → ((n : ℕ) → p ≡ At n → ⊥) → pending_in t.numbers p ≡ Some s → (set_eq s none_set ≡ false) × (has s t.table.entries ≡ false)
-new-there t few room Nothing s sound other e = absurd (cc)
-new-there t few room (At n) s sound other e = absurd (other n refl)
-new-there t few room (New set list) s sound other e =
-    let same : set ≡ s = cc in
+-- below the limit that is the set that is prepared
+pub new-there : (t : Slotted) (few room : Bool) (p : Pending) (s : AttributeSet) → IsSound t few room p → ((n : ℕ) → p ≡ At n → ⊥) → few ≡ true → pending_in few t.numbers p ≡ Some s → (set_eq s none_set ≡ false) × (has s t.table.entries ≡ false)
+new-there t few room Nothing s sound other below e = absurd (cc)
+new-there t few room (At n) s sound other below e = absurd (other n refl)
+new-there t few room (New set list) s sound other below e =
+    let used : cond few set over_set ≡ s = cc in
+    let same : set ≡ s = ap (λ b. cond b set over_set) (sym below) ∙ used in
     (subst (λ x. set_eq x none_set ≡ false) same sound.new.some, subst (λ x. has x t.table.entries ≡ false) same sound.absent)
+
+-- and past it the overflow set
+pub over-there : (few : Bool) (ns : Numbers) (p : Pending) (s : AttributeSet) → ((n : ℕ) → p ≡ At n → ⊥) → few ≡ false → pending_in few ns p ≡ Some s → s ≡ over_set
+over-there few ns Nothing s other past e = absurd (cc)
+over-there few ns (At n) s other past e = absurd (other n refl)
+over-there few ns (New set list) s other past e =
+    let used : cond few set over_set ≡ s = cc in
+    sym used ∙ ap (λ b. cond b set over_set) past
 
 -- the key that was made in advance
 pub made_key : (o : Option AttributeSet) (key : AttributeSet) → IfSome o (λ k. k ≡ over_set) → o ≡ Some key → key ≡ over_set
@@ -157,10 +198,10 @@ placed limit empty t after n s used counted lasting slot place new made table no
     }
 
 -- nothing is prepared any more
-pub nothing-left : (ns : Numbers) (p : Pending) → pending_in ns p ≡ None → p ≡ Nothing
-nothing-left ns Nothing e = refl
-nothing-left ns (At n) e = absurd (cc)
-nothing-left ns (New set list) e = absurd (cc)
+pub nothing-left : (few : Bool) (ns : Numbers) (p : Pending) → pending_in few ns p ≡ None → p ≡ Nothing
+nothing-left few ns Nothing e = refl
+nothing-left few ns (At n) e = absurd (cc)
+nothing-left few ns (New set list) e = absurd (cc)
 
 -- ======== handles ========
 few-push : (x : AttributeSet) (es : List Entry) (e : Entry) (n : ℕ) → 0 < n → e.handles ≡ 0 → handles_in x es < n → handles_in x (es ++ e ∷ []) < n

@@ -13,35 +13,15 @@ use Rattle.otel_model_stream.specs.Entries.{Entry, has}
 use Rattle.otel_model_stream.specs.Maps.{KnownMap, knows}
 use Rattle.otel_aggregate.specs.value_map.Keyed.{Slotted, IsNew, IsSpelling}
 use Rattle.otel_aggregate.specs.value_map.Numbers.{number_of, set_named, named_in, is_placed, AreNumbered}
-use Rattle.otel_aggregate.specs.value_map.Contents.{IsPlan, IsPlanFor, IsOverflow, IsSound, IsReady, leads, list_of, target_of}
+use Rattle.otel_aggregate.specs.value_map.Contents.{IsPlan, IsOverflow, IsSound, IsReady, leads, list_of, used_by}
 use Rattle.otel_aggregate.specs.declared.value_map.pending.Pending.{Pending}
 use Rattle.otel_aggregate.specs.declared.value_map.pending.Pending.TheVariants.{Nothing, At, New}
 use Rattle.otel_aggregate.proofs.value_map.CanonicalSets.{canon-nil, some-canon}
 use Rattle.otel_aggregate.proofs.value_map.KeyedLemmas.{same_set, same_number}
 
--- the overflow entry, where that is used for sets without entries
-plan-over : (t : Slotted) (few : Bool) (l : List KeyValue) (n : ℕ) → IsOverflow few t.table.entries t.numbers n → has (canon l) t.table.entries ≡ false → IsPlanFor t few l (target_of (Some n) l t.table.entries) (At n)
-plan-over t few l n over away =
-    let at : target_of (Some n) l t.table.entries ≡ over_set = ap (λ b. cond (not b) over_set (canon l)) away in
-    record {
-      pending = ap Some (over.2.named ∙ sym at);
-      spelling = sym (ap (λ b. cond ((not (set_eq (canon l) none_set) && (not (has (canon l) t.table.entries) && b)) && not (set_eq (canon l) l)) (l ∷ []) []) over.0 ∙ none (not (set_eq (canon l) none_set)) (not (has (canon l) t.table.entries)));
-      sound = λ room ready. (ap (λ s. number_of s t.numbers) over.2.named ∙ over.2.number, ap (λ s. is_placed s t.table.entries) over.2.named ∙ over.1);
-    }
-  where
-    none : (a b : Bool) → cond ((a && (b && false)) && not (set_eq (canon l) l)) (l ∷ []) [] ≡ []
-    none true true = refl
-    none true false = refl
-    none false b = refl
-
-pub plan-past_over : (t : Slotted) (few : Bool) (l : List KeyValue) (over : Option ℕ) (n : ℕ) → over ≡ Some n → IfSome over (IsOverflow few t.table.entries t.numbers) → has (canon l) t.table.entries ≡ false → IsPlanFor t few l (target_of over l t.table.entries) (At n)
-plan-past_over t few l over n is h away =
-    let at : IfSome (Some n) (IsOverflow few t.table.entries t.numbers) = subst (λ (o : Option ℕ). IfSome o (IsOverflow few t.table.entries t.numbers)) is h in
-    subst (λ (o : Option ℕ). IsPlanFor t few l (target_of o l t.table.entries) (At n)) (sym is) (plan-over t few l n at away)
-
--- where that isn't so, it is a plan for the list's own set
-pub plan-without : (t : Slotted) (few : Bool) (l : List KeyValue) (over : Option ℕ) (plan : Pending) → over ≡ None → IsPlan t few l plan → IsPlanFor t few l (target_of over l t.table.entries) plan
-plan-without t few l over plan e p = subst (λ o. IsPlanFor t few l (target_of o l t.table.entries) plan) (sym e) p
+-- a set without an entry uses its own if it gets one
+used-new : (few : Bool) (s : AttributeSet) (es : List Entry) → set_eq s none_set ≡ false → has s es ≡ false → used_by few s es ≡ cond few s over_set
+used-new few s es some away = rw (some, away) refl
 
 -- one without attributes
 pub plan-empty : (t : Slotted) (few : Bool) (l : List KeyValue) → set_eq l none_set ≡ true → IsPlan t few l (At t.numbers.none)
@@ -50,8 +30,9 @@ plan-empty t few l e =
     let bare : canon l ≡ [] = ap canon is ∙ canon-nil in
     let named : set_named t.numbers.none t.numbers ≡ none_set = ap (λ b. cond b none_set (named_in t.numbers.none t.numbers.sets)) (same_number t.numbers.none) in
     record {
-      pending = ap Some (named ∙ sym bare);
+      pending = ap Some named ∙ ap (λ s. Some (used_by few s t.table.entries)) (sym bare);
       spelling = sym (ap (λ s. cond ((not (set_eq s none_set) && (not (has s t.table.entries) && few)) && not (set_eq s l)) (l ∷ []) []) bare);
+      away = λ e. absurd (true≢false (sym e));
       sound = λ room ready. (ap (λ s. number_of s t.numbers) named, ap (λ s. set_eq s none_set || has s t.table.entries) named);
     }
 
@@ -80,61 +61,81 @@ unnumbered t l unled numbered =
     ∙ ap (λ b. b || has l t.table.entries) apart.0
     ∙ apart.2)
 
-module _ (t : Slotted) (l : List KeyValue) (unled : leads l t ≡ false) (absent : lookup (set_eq (canon l)) t.numbers.sets ≡ None) (away : has (canon l) t.table.entries ≡ false) where
+module _ (t : Slotted) (l : List KeyValue) (unled : leads l t ≡ false) (away : has (canon l) t.table.entries ≡ false) where
   apart : (set_eq l none_set ≡ false) × (is_member set_eq (keys_of t.aliases) l ≡ false) × (has l t.table.entries ≡ false)
   apart = or-none (set_eq l none_set) (is_member set_eq (keys_of t.aliases) l) (has l t.table.entries) unled
 
   bare : set_eq (canon l) none_set ≡ false
   bare = some-canon l apart.0
 
-  unaliased : lookup (set_eq l) t.aliases ≡ None
-  unaliased = lacking (lookup (set_eq l) t.aliases) (is_some-lookup (set_eq l) t.aliases ∙ apart.1)
-
-  new : IsNew t.numbers.sets (canon l)
-  new = record { absent = absent; canonical = canon-canon l; some = bare }
-
-  -- it is its own set
-  pub plan-own : (few : Bool) (set : AttributeSet) → set ≡ canon l → set_eq (canon l) l ≡ true → IsPlan t few l (New set None)
-  plan-own few set is own = record {
-    pending = ap Some is;
-    spelling = sym (ap (λ b. cond ((not (set_eq (canon l) none_set) && (not (has (canon l) t.table.entries) && few)) && not b) (l ∷ []) []) own ∙ ap (λ b. cond b (l ∷ []) []) (none (not (set_eq (canon l) none_set) && (not (has (canon l) t.table.entries) && few))));
-    sound = λ room ready. subst (λ s. IsReady t few room s None) (sym is) (record { new = new; absent = away; spelling = tt; admitted = λ h. absurd (true≢false (sym h)); ready = ready });
-  }
-    where
-      none : (b : Bool) → (b && false) ≡ false
-      none true = refl
-      none false = refl
-
-  -- past the limit
-  pub plan-past : (set : AttributeSet) → set ≡ canon l → IsPlan t false l (New set None)
-  plan-past set is = record {
-    pending = ap Some is;
-    spelling = sym (ap (λ b. cond (b && not (set_eq (canon l) l)) (l ∷ []) []) (none_few (not (set_eq (canon l) none_set)) (not (has (canon l) t.table.entries))));
-    sound = λ room ready. subst (λ s. IsReady t false room s None) (sym is) (record { new = new; absent = away; spelling = tt; admitted = λ h. absurd (true≢false (sym h)); ready = ready });
-  }
-    where
-      none_few : (a b : Bool) → (a && (b && false)) ≡ false
-      none_few true true = refl
-      none_few true false = refl
-      none_few false b = refl
-
-  spelled : (b : Bool) → set_eq (canon l) l ≡ b → (o : Option (List KeyValue)) → o ≡ cond b None (Some l) → IsSpelling t.aliases (canon l) o
-  spelled true q o e = subst (IsSpelling t.aliases (canon l)) (sym e) tt
-  spelled false q o e = subst (IsSpelling t.aliases (canon l)) (sym e) (refl, unaliased)
-
-  listed : (b : Bool) (o : Option (List KeyValue)) → o ≡ cond b None (Some l) → list_of o ≡ cond (not b) (l ∷ []) []
-  listed true o e = ap list_of e
-  listed false o e = ap list_of e
-
-  -- below it
-  pub plan-admitted : (set : AttributeSet) (o : Option (List KeyValue)) → set ≡ canon l → o ≡ cond (set_eq set l) None (Some l) → IsPlan t true l (New set o)
-  plan-admitted set o is e =
-      let f : o ≡ cond (set_eq (canon l) l) None (Some l) = e ∙ ap (λ s. cond (set_eq s l) None (Some l)) is in
+  -- the overflow entry, where that is there
+  pub plan-over : (few : Bool) (over : Option ℕ) (n : ℕ) → over ≡ Some n → IfSome over (IsOverflow few t.table.entries t.numbers) → IsPlan t few l (At n)
+  plan-over few over n is h =
+      let at : IsOverflow few t.table.entries t.numbers n = subst (λ (o : Option ℕ). IfSome o (IsOverflow few t.table.entries t.numbers)) is h in
       record {
-        pending = ap Some is;
-        spelling = listed (set_eq (canon l) l) o f ∙ (λ i. cond ((not (sym bare i) && (not (sym away i) && true)) && not (set_eq (canon l) l)) (l ∷ []) []);
-        sound = λ room ready. subst (λ s. IsReady t true room s o) (sym is) (record { new = new; absent = away; spelling = spelled (set_eq (canon l) l) refl o f; admitted = λ h. refl; ready = ready });
+        pending = ap Some (at.2.named ∙ ap (λ b. cond b (canon l) over_set) (sym at.0) ∙ sym (used-new few (canon l) t.table.entries bare away));
+        spelling = sym (ap (λ b. cond ((not (set_eq (canon l) none_set) && (not (has (canon l) t.table.entries) && b)) && not (set_eq (canon l) l)) (l ∷ []) []) at.0 ∙ none (not (set_eq (canon l) none_set)) (not (has (canon l) t.table.entries)));
+        away = λ e. away;
+        sound = λ room ready. (ap (λ s. number_of s t.numbers) at.2.named ∙ at.2.number, ap (λ s. is_placed s t.table.entries) at.2.named ∙ at.1);
       }
+    where
+      none : (a b : Bool) → cond ((a && (b && false)) && not (set_eq (canon l) l)) (l ∷ []) [] ≡ []
+      none true true = refl
+      none true false = refl
+      none false b = refl
+
+  module _ (absent : lookup (set_eq (canon l)) t.numbers.sets ≡ None) where
+    unaliased : lookup (set_eq l) t.aliases ≡ None
+    unaliased = lacking (lookup (set_eq l) t.aliases) (is_some-lookup (set_eq l) t.aliases ∙ apart.1)
+
+    new : IsNew t.numbers.sets (canon l)
+    new = record { absent = absent; canonical = canon-canon l; some = bare }
+
+    -- it is its own set
+    pub plan-own : (few : Bool) (set : AttributeSet) → set ≡ canon l → set_eq (canon l) l ≡ true → IsPlan t few l (New set None)
+    plan-own few set is own = record {
+      pending = ap Some (ap (λ s. cond few s over_set) is ∙ sym (used-new few (canon l) t.table.entries bare away));
+      spelling = sym (ap (λ b. cond ((not (set_eq (canon l) none_set) && (not (has (canon l) t.table.entries) && few)) && not b) (l ∷ []) []) own ∙ ap (λ b. cond b (l ∷ []) []) (none (not (set_eq (canon l) none_set) && (not (has (canon l) t.table.entries) && few))));
+      away = λ e. away;
+      sound = λ room ready. subst (λ s. IsReady t few room s None) (sym is) (record { new = new; absent = away; spelling = tt; admitted = λ h. absurd (true≢false (sym h)); ready = ready });
+    }
+      where
+        none : (b : Bool) → (b && false) ≡ false
+        none true = refl
+        none false = refl
+
+    -- past the limit
+    pub plan-past : (set : AttributeSet) → set ≡ canon l → IsPlan t false l (New set None)
+    plan-past set is = record {
+      pending = ap Some (sym (used-new false (canon l) t.table.entries bare away));
+      spelling = sym (ap (λ b. cond (b && not (set_eq (canon l) l)) (l ∷ []) []) (none_few (not (set_eq (canon l) none_set)) (not (has (canon l) t.table.entries))));
+      away = λ e. away;
+      sound = λ room ready. subst (λ s. IsReady t false room s None) (sym is) (record { new = new; absent = away; spelling = tt; admitted = λ h. absurd (true≢false (sym h)); ready = ready });
+    }
+      where
+        none_few : (a b : Bool) → (a && (b && false)) ≡ false
+        none_few true true = refl
+        none_few true false = refl
+        none_few false b = refl
+
+    spelled : (b : Bool) → set_eq (canon l) l ≡ b → (o : Option (List KeyValue)) → o ≡ cond b None (Some l) → IsSpelling t.aliases (canon l) o
+    spelled true q o e = subst (IsSpelling t.aliases (canon l)) (sym e) tt
+    spelled false q o e = subst (IsSpelling t.aliases (canon l)) (sym e) (refl, unaliased)
+
+    listed : (b : Bool) (o : Option (List KeyValue)) → o ≡ cond b None (Some l) → list_of o ≡ cond (not b) (l ∷ []) []
+    listed true o e = ap list_of e
+    listed false o e = ap list_of e
+
+    -- below it
+    pub plan-admitted : (set : AttributeSet) (o : Option (List KeyValue)) → set ≡ canon l → o ≡ cond (set_eq set l) None (Some l) → IsPlan t true l (New set o)
+    plan-admitted set o is e =
+        let f : o ≡ cond (set_eq (canon l) l) None (Some l) = e ∙ ap (λ s. cond (set_eq s l) None (Some l)) is in
+        record {
+          pending = ap Some (is ∙ sym (used-new true (canon l) t.table.entries bare away));
+          away = λ e. away;
+          spelling = listed (set_eq (canon l) l) o f ∙ (λ i. cond ((not (sym bare i) && (not (sym away i) && true)) && not (set_eq (canon l) l)) (l ∷ []) []);
+          sound = λ room ready. subst (λ s. IsReady t true room s o) (sym is) (record { new = new; absent = away; spelling = spelled (set_eq (canon l) l) refl o f; admitted = λ h. refl; ready = ready });
+        }
 
 -- it doesn't depend on the room of the table itself
 pub sound-same : (t n : Slotted) (few room : Bool) (p : Pending) → n.table ≡ t.table → n.numbers ≡ t.numbers → n.aliases ≡ t.aliases → IsSound t few room p → IsSound n few room p

@@ -14,7 +14,7 @@ use Rattle.otel_aggregate.specs.declared.value_map.pending.Pending.{Pending}
 use Rattle.otel_aggregate.specs.declared.value_map.pending.Pending.TheVariants.{Nothing, At, New}
 
 -- a map's state; the numbers of its entries; the lists, as given, that it knows besides the sets of its entries; the
--- set of the prepared record or bind, if any; and the list that this adds to those, if any
+-- set of the entry that the prepared record or bind uses, if any; and the list that this adds to those, if any
 pub record MapContents : Type 0 where
   pub state : MapState
   pub numbers : Numbers
@@ -26,16 +26,23 @@ pub record MapContents : Type 0 where
 abbrev pub known_of : MapContents → KnownMap
 known_of h = record { map_state = h.state; given = h.given }
 
--- the set of the prepared record or bind, if any
-abbrev pub pending_in : Numbers → Pending → Option AttributeSet
-pending_in ns Nothing = None
-pending_in ns (At n) = Some (set_named n ns)
-pending_in ns (New s list) = Some s
+-- the set of the entry that the prepared record or bind uses, if any. A new set uses its own if `few` says that the limit
+-- allows one more counted entry, and else the overflow entry
+abbrev pub pending_in : Bool → Numbers → Pending → Option AttributeSet
+pending_in few ns Nothing = None
+pending_in few ns (At n) = Some (set_named n ns)
+pending_in few ns (New s list) = Some (cond few s over_set)
 
 -- the list, if there is one, as a list of lists
 abbrev pub list_of : Option (List KeyValue) → List (List KeyValue)
 list_of None = []
 list_of (Some l) = l ∷ []
+
+-- whether a new set is prepared
+abbrev pub is_new : Pending → Bool
+is_new Nothing = false
+is_new (At n) = false
+is_new (New s list) = true
 
 -- the list that the prepared record or bind adds, if any
 abbrev pub spelling_in : Pending → List (List KeyValue)
@@ -62,10 +69,9 @@ IsSound t few room (New s list) = IsReady t few room s list
 abbrev pub leads : List KeyValue → Slotted → Bool
 leads l t = set_eq l none_set || (is_member set_eq (keys_of t.aliases) l || has l t.table.entries)
 
--- the set whose entry a record or bind of the list uses: its own, or the overflow set, if that is to be used at once for
--- sets without entries, since its entry has this number
-abbrev pub target_of : Option ℕ → List KeyValue → List Entry → AttributeSet
-target_of overflow l es = cond (is_some overflow && not (has (canon l) es)) over_set (canon l)
+-- the set whose entry a record or bind of the set uses: its own if it has one or gets one, and else the overflow set
+abbrev pub used_by : Bool → AttributeSet → List Entry → AttributeSet
+used_by few s es = cond (is_placed s es || few) s over_set
 
 -- the overflow entry has this number, and sets without entries go to it, since the limit allows no more
 abbrev pub IsOverflow : Bool → List Entry → Numbers → ℕ → Type 0
@@ -75,16 +81,12 @@ IsOverflow few es ns n = (few ≡ false) × (has over_set es ≡ true) × IsNumb
 abbrev pub IsOverflowAt : MapContents → ℕ → Type 0
 IsOverflowAt h = IsOverflow (nat_lt (number_counted h.state.table.entries) h.state.limit) h.state.table.entries h.numbers
 
--- the plan is what a record or bind of the list is to do that uses the entry of the set s. `few` says whether the limit
--- allows one more counted entry
-pub record IsPlanFor (t : Slotted) (few : Bool) (l : List KeyValue) (s : AttributeSet) (plan : Pending) : Type 0 where
-  pub pending : pending_in t.numbers plan ≡ Some s
+-- the plan is what a record or bind of the list is to do. `few` says whether the limit allows one more counted entry
+pub record IsPlan (t : Slotted) (few : Bool) (l : List KeyValue) (plan : Pending) : Type 0 where
+  pub pending : pending_in few t.numbers plan ≡ Some (used_by few (canon l) t.table.entries)
   pub spelling : spelling_in plan ≡ cond ((not (set_eq (canon l) none_set) && (not (has (canon l) t.table.entries) && few)) && not (set_eq (canon l) l)) (l ∷ []) []
+  pub away : IsTrue (is_new plan) → has (canon l) t.table.entries ≡ false
   pub sound : (room : Bool) → IsTrue room → IsSound t few room plan
-
--- the plan is what a record or bind of the list is to do that uses the list's own set
-abbrev pub IsPlan : Slotted → Bool → List KeyValue → Pending → Type 0
-IsPlan t few l plan = IsPlanFor t few l (canon l) plan
 
 -- a record or bind of the list is to use the entry with this number, whether or not the limit allows one more
 abbrev pub IsPlanAt : Slotted → List KeyValue → ℕ → Type 0

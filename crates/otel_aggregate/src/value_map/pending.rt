@@ -8,7 +8,7 @@ ghost use Rattle.otel_model_stream.specs.Entries.{has};
 ghost use Rattle.otel_model_stream.specs.Sets.{allowed_part, over_set};
 ghost use Rattle.otel_aggregate.specs.value_map.Numbers.{is_placed};
 ghost use Rattle.otel_aggregate.specs.value_map.Slots.{kept_of, new_kept};
-ghost use Rattle.otel_aggregate.specs.value_map.Contents.{IsOverflow, IsPlanAt, IsPlanFor, target_of, leads};
+ghost use Rattle.otel_aggregate.specs.value_map.Contents.{IsOverflow, IsPlan, IsPlanAt, leads};
 ghost use Rattle.otel_aggregate.specs.declared.value_map.pending.Pending.TheVariants.{Nothing};
 
 use crate::aggregators::aggregator::Aggregator;
@@ -98,7 +98,7 @@ fn plan_sorted<A: Aggregator>(
     requires unled { leads list.now.key table.now ≡ false }
     requires other { set_eq (canon list.now.key) list.now.key ≡ false }
     requires sorted { sorted.now.key ≡ canon list.now.key }
-    ensures plan { IfOk result (λ plan. IsPlanFor table.now few list.now.key (target_of overflow list.now.key table.now.table.entries) plan) }
+    ensures plan { IfOk result (IsPlan table.now few list.now.key) }
     ensures placed { IsTrue (has (canon list.now.key) table.now.table.entries) → IsOk result }
     ensures only_memory { IsOkUnless result Fault.OutOfMemory }
 {
@@ -135,7 +135,7 @@ pub fn plan<A: Aggregator>(
     requires overflow { IfSome overflow (IsOverflow few table.now.table.entries table.now.numbers) }
     requires list { list.now.key ≡ allowed_part (option_copied allow) attributes.now }
     requires unled { leads list.now.key table.now ≡ false }
-    ensures plan { IfOk result (λ plan. IsPlanFor table.now few list.now.key (target_of overflow list.now.key table.now.table.entries) plan) }
+    ensures plan { IfOk result (IsPlan table.now few list.now.key) }
     ensures placed { IsTrue (has (canon list.now.key) table.now.table.entries) → IsOk result }
     ensures only_memory { IsOkUnless result Fault.OutOfMemory }
 {

@@ -1,17 +1,19 @@
-use Rattle.std.proofs.Common.{◌≡◌, ◌∙◌, refl, sym, subst, List}
+use Rattle.std.proofs.Common.{◌≡◌, ◌∙◌, refl, ap, sym, subst, cond, List, Some, None}
 use Rattle.std.specs.Prelude.{OnOk, OnErr}
 use Rattle.std.specs.List.{AllByRecursion}
-use Rattle.otel_model_stream.specs.Folds.{Sample}
-use Rattle.otel_model_stream.specs.Maps.{measured_list}
+use Rattle.otel_model_stream.specs.Folds.{Sample, sample_of}
+use Rattle.otel_model_stream.specs.Maps.{measured_list, bound_to}
+use Rattle.otel_model_stream.specs.Sets.{AttributeSet, set_of}
 use Rattle.otel_aggregate.specs.value_map.Contents.{known_of}
-use Rattle.otel_aggregate.specs.Any.{Form, form_of, aggregate_of, amount_of}
+use Rattle.otel_aggregate.specs.Any.{Form, form_of, aggregate_of, amount_of, any_after_commit}
 use Rattle.otel_aggregate.specs.AnyKept.{sample_in}
 use Rattle.otel_aggregate.specs.Kept.{IsWithin, state_of}
 use Rattle.otel_aggregate.specs.Links.{Link, handles_of, AreHeld}
-use Rattle.otel_aggregate.specs.Streams.{AggregateContents}
+use Rattle.otel_aggregate.specs.Streams.{AggregateContents, stream_after_commit}
 use Rattle.otel_aggregate.proofs.KeptLemmas.{kept-listed, drained-listed, reported-same}
 use Rattle.otel_aggregate.proofs.LinkLemmas.{IsLinkedStill, still-kept, handles-still, linked-still}
 use Rattle.otel_aggregate.proofs.StepLemmas.{held-listed, if-typed, listed-made, listed-refused}
+use Rattle.otel_aggregate.proofs.value_map.PlaceLemmas.{used-measured}
 use Rattle.otel_aggregate.proofs.aggregate_stream.AggregateStream.measure.Goals as goal
 use Rattle.otel_aggregate.proofs.aggregate_stream.AggregateStream.measure.Goals.{in-Ok, in-Err}
 
@@ -67,3 +69,19 @@ returns-clause-refused c =
           (listed-refused c.self.view_is was now.new.self (handles_of now.new.self.numbers links) now.new.self.pending refl err
           (handles-still was.numbers now.new.self.numbers c.law_of_numbers.ensures.named links (still-kept was.numbers now.new.self.numbers now.ensures.numbers links c.self.invariant.0)) now.ensures.spent))
     ]
+
+-- a record of the entry that the set uses is one of the set
+pub returns-then-is_some-clause-taken : goal.returns-then-is_some-clause-taken
+returns-then-is_some-clause-taken c =
+    let a : AggregateContents = c.args.self.now in
+    let v = amount_of c.args.value in
+    let ready = c.in_ok-prepare.ensures in
+    let set : AttributeSet = set_of a.state.allow c.args.attributes.now in
+    let used : AggregateContents = record a { pending = Some (bound_to set a.state.map_state) } in
+    let is : c.prepare.new.self ≡ used = λ i. record { is_signed = ready.number i; state = ready.same i; live = ready.live i; pending = ready.ready i; room = ready.room i; drains = ready.drains i; reported = ready.reported i } in
+    let told = sym c.takes.ensures.told ∙ c.if-not-takes.false in
+    if-typed a told
+    (c.commit.ensures.taken
+    ∙ ap (any_after_commit c.args.value) is
+    ∙ ap (λ t. cond t (stream_after_commit v used) used) told
+    ∙ λ i. record a { state = record a.state { map_state = used-measured a.state.map_state set (sample_of a.state.aggregate v) i }; pending = None })

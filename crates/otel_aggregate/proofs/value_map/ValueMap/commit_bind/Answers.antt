@@ -1,4 +1,4 @@
-use Rattle.std.proofs.Common.{◌≡◌, ◌∙◌, ◌<◌, ◌-◌, ◌^◌, ap, sym, subst, refl, None, Some, true≢false}
+use Rattle.std.proofs.Common.{nat_lt, ◌≡◌, ◌∙◌, ◌<◌, ◌-◌, ◌^◌, ap, sym, subst, refl, None, Some, true≢false}
 use Rattle.std.specs.Prelude.{IsSome}
 use Rattle.otel_model_stream.specs.Sets.{AttributeSet}
 use Rattle.otel_model_stream.specs.Entries.{entry_for}
@@ -11,8 +11,8 @@ use Rattle.otel_aggregate.proofs.value_map.ValueMap.commit_bind.Goals as goal
 
 pub invariant_of-self : goal.invariant_of-self
 invariant_of-self g c =
-    let spent : pending_in c.self.inside.table.numbers c.self.inside.pending ≡ None = ap (λ (h : MapContents). h.pending) c.self.view_is ∙ c.place-number.ensures.spent in
-    let nothing : c.self.inside.pending ≡ Nothing = nothing-left c.self.inside.table.numbers c.self.inside.pending spent in
+    let spent : pending_in (nat_lt c.self.inside.count c.self.inside.limit) c.self.inside.table.numbers c.self.inside.pending ≡ None = ap (λ (h : MapContents). h.pending) c.self.view_is ∙ c.place-number.ensures.spent in
+    let nothing : c.self.inside.pending ≡ Nothing = nothing-left _ c.self.inside.table.numbers c.self.inside.pending spent in
     (c.self.invariant.0 ∙ sym c.hold.ensures.counted, c.self.invariant.1, c.self.invariant.2, subst (IsSound _ _ _) (sym nothing) tt)
 
 pub hold-requires : goal.hold-requires

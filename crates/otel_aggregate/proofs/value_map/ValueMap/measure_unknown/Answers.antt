@@ -1,13 +1,10 @@
-use Rattle.std.proofs.Common.{◌≡◌, ◌∙◌, ◌++◌, List, Some, ap, false}
+use Rattle.std.proofs.Common.{◌≡◌, ◌∙◌, ◌++◌, List, Some, ap}
 use Rattle.otel_common.specs.Canonical.{canon}
-use Rattle.otel_common.specs.Equality.{set_eq}
 use Rattle.otel_common.specs.declared.attributes.KeyValue.{KeyValue}
-use Rattle.otel_model_stream.specs.Maps.{MapState, measured_map}
-use Rattle.otel_model_stream.specs.Sets.{AttributeSet, none_set}
-use Rattle.otel_aggregate.specs.value_map.Contents.{known_of, target_of}
+use Rattle.otel_model_stream.specs.Maps.{MapState, measured_map, bound_to}
+use Rattle.otel_model_stream.specs.Sets.{AttributeSet}
 use Rattle.otel_aggregate.specs.value_map.Numbers.{spelling_of}
-use Rattle.otel_aggregate.proofs.value_map.PlaceLemmas.{target-measured}
-use Rattle.otel_aggregate.proofs.value_map.PlanLemmas.{unknown-some}
+use Rattle.otel_aggregate.proofs.value_map.PlaceLemmas.{used-measured}
 use Rattle.otel_aggregate.proofs.value_map.ValueMap.measure_unknown.Goals as goal
 
 pub returns-clause-ok : goal.returns-clause-ok
@@ -15,12 +12,11 @@ returns-clause-ok g c =
     let h = c.args.self.now in
     let l = c.args.attributes.now in
     let v = g.A.Aggregator.sample c.args.value in
-    let some : set_eq l none_set ≡ false = unknown-some l (known_of h) c.requires.unknown in
-    let target : AttributeSet = target_of c.overflow-overflow.result l h.state.table.entries in
+    let used : AttributeSet = bound_to (canon l) h.state in
     let state : c.commit.new.self.state ≡ measured_map (canon l) v h.state =
-    c.commit.ensures.measured target (c.in_ok-prepare_unknown.ensures.ready ∙ ap (λ (x : List KeyValue). Some (target_of c.overflow-overflow.result x h.state.table.entries)) c.requires.list)
-    ∙ ap (λ (m : MapState). measured_map target v m) c.prepare_unknown.ensures.same
-    ∙ target-measured c.overflow-overflow.result l v h some c.overflow-overflow.ensures in
+    c.commit.ensures.measured used (c.in_ok-prepare_unknown.ensures.ready ∙ ap (λ (x : List KeyValue). Some (bound_to (canon x) h.state)) c.requires.list)
+    ∙ ap (λ (m : MapState). measured_map used v m) c.prepare_unknown.ensures.same
+    ∙ used-measured h.state (canon l) v in
     let given : c.commit.new.self.given ≡ h.given ++ spelling_of l h.state =
     c.commit.ensures.given
     ∙ ap (λ (ls : List (List KeyValue)). ls ++ c.prepare_unknown.new.self.spelling) c.prepare_unknown.ensures.given
