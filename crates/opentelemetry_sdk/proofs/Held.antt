@@ -18,7 +18,7 @@ use Rattle.otel_model.proofs.Handles.{unfed-unheld, later-unheld}
 use Rattle.otel_data.specs.declared.numbers.NumberValue.{NumberValue}
 use Rattle.otel_aggregate.specs.Any.{is_signed_value}
 use Rattle.opentelemetry_sdk.specs.declared.pipeline.change.Change.TheVariants as change
-use Rattle.opentelemetry_sdk.specs.pipeline.Handles.{FeedsSynchronous, IsNewAt, IsHeldByFed, Makes}
+use Rattle.opentelemetry_sdk.specs.pipeline.Handles.{FeedsSynchronous, IsNewAt, IsHeldByFed, StandsFor}
 use Rattle.opentelemetry_sdk.specs.pipeline.Pipelines.{FeedsType, Piped, number_of, part_of}
 use Rattle.opentelemetry_sdk.specs.States.{AreTyped}
 
@@ -30,13 +30,13 @@ each-at P (p ∷ ps) zero d h all = all.0
 each-at P (p ∷ ps) (suc i) d h all = each-at P ps i d (omega arith) all.1
 
 -- a record through a handle is the call at each reader
-pub held-makes : (n h place : ℕ) (value : NumberValue) (ps : List Piped) → EachOf (FeedsType n (is_signed_value value)) (map part_of ps) → EachOf (FeedsSynchronous n) (map part_of ps) → EachOf (IsHeldByFed n h) (map part_of ps)
-    → All (Makes n (change.Held h place value) 0 (model.Call.RecordBound h (number_of value))) ps
-held-makes n h place value ps typed sync held i d l = (refl, each-at (FeedsType n (is_signed_value value)) ps i d l typed, each-at (FeedsSynchronous n) ps i d l sync, each-at (IsHeldByFed n h) ps i d l held)
+pub held-stands : (n h place : ℕ) (value : NumberValue) (ps : List Piped) → EachOf (FeedsType n (is_signed_value value)) (map part_of ps) → EachOf (FeedsSynchronous n) (map part_of ps) → EachOf (IsHeldByFed n h) (map part_of ps)
+    → All (StandsFor n (change.Held h place value) 0 (model.Call.RecordBound h (number_of value))) ps
+held-stands n h place value ps typed sync held i d l = (refl, each-at (FeedsType n (is_signed_value value)) ps i d l typed, each-at (FeedsSynchronous n) ps i d l sync, each-at (IsHeldByFed n h) ps i d l held)
 
 -- and so is its end
-pub unbind-makes : (n h : ℕ) (ps : List Piped) → EachOf (FeedsSynchronous n) (map part_of ps) → EachOf (IsHeldByFed n h) (map part_of ps) → All (Makes n (change.Unbind h) 0 (model.Call.Unbind h)) ps
-unbind-makes n h ps sync held i d l = (refl, each-at (FeedsSynchronous n) ps i d l sync, each-at (IsHeldByFed n h) ps i d l held)
+pub unbind-stands : (n h : ℕ) (ps : List Piped) → EachOf (FeedsSynchronous n) (map part_of ps) → EachOf (IsHeldByFed n h) (map part_of ps) → All (StandsFor n (change.Unbind h) 0 (model.Call.Unbind h)) ps
+unbind-stands n h ps sync held i d l = (refl, each-at (FeedsSynchronous n) ps i d l sync, each-at (IsHeldByFed n h) ps i d l held)
 
 -- what is done at the only reader is done at all
 pub done-alone : (g : ReaderPart → ReaderPart) (ps : List Piped) (d y : Piped) → length ps ≡ 1 → part_of y ≡ g (part_of (get_or ps 0 d)) → map part_of (set ps 0 y) ≡ map g (map part_of ps)

@@ -4,7 +4,7 @@ ghost use Rattle.std.specs.Prelude.{◌≡◌, [], true, false, ℕ, IfOk, OnOk,
 ghost use Rattle.otel_model.specs.Calls as model;
 ghost use Rattle.otel_model.specs.Machine.{part_after_call};
 ghost use Rattle.opentelemetry_sdk.specs.pipeline.Collections.{IsCollectedFrom};
-ghost use Rattle.opentelemetry_sdk.specs.pipeline.Handles.{AreObservableFor, Makes};
+ghost use Rattle.opentelemetry_sdk.specs.pipeline.Handles.{AreObservableFor, StandsFor};
 ghost use Rattle.opentelemetry_sdk.specs.pipeline.Known.{is_known_at};
 ghost use Rattle.opentelemetry_sdk.specs.pipeline.Observations.{AreTypedFor, observed_of};
 ghost use Rattle.opentelemetry_sdk.specs.pipeline.Pipelines.{part_of, has_stream_at, number_of, FeedsType, IsLawful, IsReadyFor};
@@ -153,7 +153,7 @@ impl Pipeline {
     /// one of them; 0 if it bound none. Takes no memory, and looks no set up.
     #[inline(always)]
     pub fn change(&mut self, instrument: usize, change: Change) -> usize
-        ensures { (next : ℕ) (call : model.Call) → Makes instrument change next call self.old → part_of self.new ≡ part_after_call next call (part_of self.old) }
+        ensures { (next : ℕ) (call : model.Call) → StandsFor instrument change next call self.old → part_of self.new ≡ part_after_call next call (part_of self.old) }
     {
         self.law_of_identities();
         let feeds = streams_fed(&self.feeds, instrument);

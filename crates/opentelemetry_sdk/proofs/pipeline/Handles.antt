@@ -4,10 +4,12 @@ use Rattle.std.specs.List.{AllByRecursion as EachOf}
 use Rattle.otel_common.specs.declared.attributes.KeyValue.{KeyValue}
 use Rattle.otel_data.specs.declared.numbers.NumberValue.{NumberValue}
 use Rattle.otel_aggregate.specs.Any.{is_signed_value, amount_of}
+use Rattle.otel_aggregate.proofs.value_map.PlaceLemmas.{used-own, used-placed}
 use Rattle.otel_stream.specs.declared.observation.Observed.{Observed}
 use Rattle.otel_model_stream.specs.Events.{held_by}
-use Rattle.otel_model_stream.specs.Folds.{Amount, sample_of, wrap}
-use Rattle.otel_model_stream.specs.Machine.{through, let_go}
+use Rattle.otel_model_stream.specs.Folds.{Amount, empty_of, sample_of, wrap}
+use Rattle.otel_model_stream.specs.Machine.{hold, through, let_go}
+use Rattle.otel_model_stream.specs.Maps.{MapState}
 use Rattle.otel_model_stream.specs.Sets.{AttributeSet}
 use Rattle.otel_model_stream.specs.Totals.{has_number, size}
 use Rattle.otel_model.specs.Calls.{InstrumentKind, Counter, UpDownCounter, Histogram, ObservableCounter, ObservableUpDownCounter, Gauge, ObservableGauge, is_observable, Number, Call, Bind, RecordBound, Unbind}
@@ -18,10 +20,10 @@ use Rattle.otel_model.specs.State.{Stream}
 use Rattle.otel_model.specs.Streams.{aggregate_of, is_drained, observes_sums}
 use Rattle.opentelemetry_sdk.specs.declared.pipeline.change.Change.{Change}
 use Rattle.opentelemetry_sdk.specs.declared.pipeline.change.Change.TheVariants as change
-use Rattle.opentelemetry_sdk.specs.pipeline.Handles.{FeedsSynchronous, AreObservableFor, IsNewAt, IsHeldByFed, Makes}
+use Rattle.opentelemetry_sdk.specs.pipeline.Handles.{FeedsSynchronous, AreObservableFor, IsNewAt, IsHeldByFed, StandsFor}
 use Rattle.opentelemetry_sdk.specs.pipeline.Observations.{AreObservableIn}
 use Rattle.opentelemetry_sdk.specs.pipeline.Pipelines.{Piped, IsLawful, IsReady, IsReadyFor, IsReadyIfThere, FeedsType, identity_of, is_streamed, model_streams, named_identities, number_of, part_of, part_changed_by, fed_by}
-use Rattle.opentelemetry_sdk.specs.pipeline.Streams.{StreamContents, with_bind, bound_by, contents_after, with_update, without_handle}
+use Rattle.opentelemetry_sdk.specs.pipeline.Streams.{StreamContents, used_for, with_bind, bound_by, contents_after, with_update, without_handle}
 use Rattle.opentelemetry_sdk.proofs.pipeline.Answered.{changes}
 use Rattle.opentelemetry_sdk.proofs.pipeline.Records.{each-sent, fed-at, fits, none-sent, recorded-sent, some_same, there-at, typed-fits}
 
@@ -84,6 +86,13 @@ bind-if : (answers : model.ReaderAnswers) (h n : ℕ) (l : List KeyValue) (feeds
 bind-if answers h n l feeds k true e = rw e refl
 bind-if answers h n l feeds k false e = rw e refl
 
+-- a prepared bind is one of the set itself
+used-bind : (h : ℕ) (s : AttributeSet) (k : StreamContents) → (with_bind h (used_for s k) k).stream ≡ (with_bind h s k).stream
+used-bind h s k =
+    let q : Stream = k.stream in
+    let m : MapState = record { limit = q.demand.limit; empty = empty_of (aggregate_of q.demand); table = q.machine.table } in
+    λ i. record q { machine = hold h (used-own m s i) (record { table = (used-placed m s i).table; live = q.machine.live }) }
+
 abbrev can_bind : ℕ → StreamContents → Bool
 can_bind h k = not (is_observable k.stream.demand.identity.kind) && (k.room && is_none (held_by h k.stream.machine.live))
 
@@ -96,6 +105,7 @@ bound-sent h n l p lawful ready sync new = each-sent p lawful h n (Bind n l) (co
     let away : held_by h k.stream.machine.live ≡ None = of-streamed (λ (q : Stream). held_by h q.machine.live ≡ None) p.streams new i k at s in
     let can : can_bind h k ≡ true = λ j. not (kind j) && (room j && is_none (away j)) in
     bind-if p.answers h n l (map (named_identities p.streams) p.feeds) k true fed
+    ∙ sym (used-bind h (set_for k.stream.demand l) k)
     ∙ ap (λ o. (bound_by o h k).stream) (sym is.set)
     ∙ ap (λ b. (cond b (bound_by k.pending h k) k).stream) (sym can))
     (λ i k at s fed. bind-if p.answers h n l (map (named_identities p.streams) p.feeds) k false fed)
@@ -147,7 +157,7 @@ module _ (n h : ℕ) (p : Piped) (lawful : IsLawful p) (sync : FeedsSynchronous 
 
 -- ======== changes ========
 -- a change is the call that it makes
-pub change-sent : (n : ℕ) (c : Change) (next : ℕ) (call : Call) (p : Piped) → IsLawful p → Makes n c next call p → part_changed_by (contents_after c) n p ≡ part_after_call next call (part_of p)
+pub change-sent : (n : ℕ) (c : Change) (next : ℕ) (call : Call) (p : Piped) → IsLawful p → StandsFor n c next call p → part_changed_by (contents_after c) n p ≡ part_after_call next call (part_of p)
 change-sent n (change.Prepared value) next call p lawful makes = recorded-sent next n value makes.0 p lawful makes.2 makes.3 ∙ ap (λ x. part_after_call next x (part_of p)) (sym makes.1)
 change-sent n (change.Empty value) next call p lawful makes = none-sent next n value p lawful makes.1 ∙ ap (λ x. part_after_call next x (part_of p)) (sym makes.0)
 change-sent n (change.Held h place value) next call p lawful makes = update-sent n h p lawful makes.2 makes.3 next place value makes.1 ∙ ap (λ x. part_after_call next x (part_of p)) (sym makes.0)

@@ -11,17 +11,21 @@ use Rattle.std.proofs.lemmas.Bool.{cases_Bool, true≢false}
 use Rattle.otel_common.specs.declared.attributes.KeyValue.{KeyValue}
 use Rattle.otel_data.specs.declared.numbers.NumberValue.{NumberValue}
 use Rattle.otel_aggregate.specs.Any.{is_signed_value, amount_of}
-use Rattle.otel_model_stream.specs.Sets.{none_set}
-use Rattle.otel_model_stream.specs.Totals.{has_number}
+use Rattle.otel_aggregate.proofs.value_map.PlaceLemmas.{used-measured}
+use Rattle.otel_model_stream.specs.Folds.{Amount, empty_of, sample_of, wrap}
+use Rattle.otel_model_stream.specs.Maps.{MapState}
+use Rattle.otel_model_stream.specs.Sets.{AttributeSet, none_set}
+use Rattle.otel_model_stream.specs.Totals.{has_number, size}
 use Rattle.otel_model.specs.Calls.{or_else, Number, Call, Record as RecordCall}
 use Rattle.otel_model.specs.Demands as model
 use Rattle.otel_model.specs.Machine.{stream_after, part_after_call}
 use Rattle.otel_model.specs.Sent.{is_fed, set_for}
 use Rattle.otel_model.specs.State.{ReaderPart, Stream}
+use Rattle.otel_model.specs.Streams.{aggregate_of}
 use Rattle.otel_model.proofs.Gather.{identity_eq_self}
 use Rattle.opentelemetry_sdk.specs.pipeline.Pipelines.{fates_of, named_identities, identity_at, identity_of, is_streamed, model_streams, part_of, Piped, AreNumbers, IsLawful, IsReadyFor, IsReadyIfThere, changed_each, fed_by, number_of, part_changed_by, FeedsType}
 use Rattle.opentelemetry_sdk.specs.declared.pipeline.change.Change.TheVariants as change
-use Rattle.opentelemetry_sdk.specs.pipeline.Streams.{StreamContents, with_record, contents_after, contents_after_record, committed_by}
+use Rattle.opentelemetry_sdk.specs.pipeline.Streams.{StreamContents, used_for, with_record, contents_after, contents_after_record, committed_by}
 use Rattle.opentelemetry_sdk.proofs.pipeline.Answered.{KeepsAnswer, changes, records}
 use Rattle.opentelemetry_sdk.proofs.pipeline.Identities.{AreApart, are_apart}
 use Rattle.opentelemetry_sdk.proofs.pipeline.NoAttributes.{set_of-nil}
@@ -154,11 +158,20 @@ record-sent p lawful next n value l typed f keeps made = each-sent p lawful next
     (λ i k at s h fed. sent-if p.answers next n (number_of value) l (map (named_identities p.streams) p.feeds) k true fed ∙ made i k at h (typed-fits n value (part_of p) k.stream.demand typed fed))
     (λ i k at s fed. sent-if p.answers next n (number_of value) l (map (named_identities p.streams) p.feeds) k false fed)
 
+-- a prepared record is one of the set itself
+used-recorded : (s : AttributeSet) (v : Amount) (k : StreamContents) → with_record (used_for s k) v k ≡ with_record s v k
+used-recorded s v k =
+    let q : Stream = k.stream in
+    let m : MapState = record { limit = q.demand.limit; empty = empty_of (aggregate_of q.demand); table = q.machine.table } in
+    ap (λ (x : MapState). record k { stream = record q { machine = record q.machine { table = x.table }; recorded = wrap (q.recorded + size (aggregate_of q.demand) v) }; pending = None })
+    (used-measured m s (sample_of (aggregate_of q.demand) v))
+
 pub recorded-sent : (next n : ℕ) (value : NumberValue) (l : List KeyValue) (p : Piped) → IsLawful p → IsReadyFor false n l p → FeedsType n (is_signed_value value) (part_of p)
     → part_changed_by (contents_after (change.Prepared value)) n p ≡ part_after_call next (RecordCall n (number_of value) l) (part_of p)
 recorded-sent next n value l p lawful ready typed = record-sent p lawful next n value l typed (contents_after (change.Prepared value)) (changes (change.Prepared value))
     (λ i k at h fit.
-    ap (λ o. (committed_by o (amount_of value) k).stream) (sym (there-at (IsReadyIfThere false l) p.streams (fed_by n p) ready i k at h).set)
+    ap (λ (x : StreamContents). x.stream) (sym (used-recorded (set_for k.stream.demand l) (amount_of value) k))
+    ∙ ap (λ o. (committed_by o (amount_of value) k).stream) (sym (there-at (IsReadyIfThere false l) p.streams (fed_by n p) ready i k at h).set)
     ∙ ap (λ b. (cond b (committed_by k.pending (amount_of value) k) k).stream) (sym fit))
 
 -- a record in one pass

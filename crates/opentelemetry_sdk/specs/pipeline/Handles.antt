@@ -35,10 +35,10 @@ abbrev pub IsHeldByFed : ℕ → ℕ → ReaderPart → Type 0
 IsHeldByFed instrument h p = EachOf (λ (q : Stream). is_fed p.feeds instrument q.demand.identity ≡ false → held_by h q.machine.live ≡ None) p.streams
 
 -- ======== changes ========
--- the change, of the streams that the instrument feeds, is this call, and the next handle has the number `next`
-abbrev pub Makes : ℕ → Change → ℕ → Call → Piped → Type 0
-Makes n (change.Prepared value) next call p = (l : List KeyValue) × (call ≡ Record n (number_of value) l) × IsReadyFor false n l p × FeedsType n (is_signed_value value) (part_of p)
-Makes n (change.Empty value) next call p = (call ≡ Record n (number_of value) []) × FeedsType n (is_signed_value value) (part_of p)
-Makes n (change.Held h place value) next call p = (call ≡ RecordBound h (number_of value)) × FeedsType n (is_signed_value value) (part_of p) × FeedsSynchronous n (part_of p) × IsHeldByFed n h (part_of p)
-Makes n (change.Bind h) next call p = (l : List KeyValue) × (call ≡ Bind n l) × (h ≡ next) × IsReadyFor true n l p × FeedsSynchronous n (part_of p) × IsNewAt h (part_of p)
-Makes n (change.Unbind h) next call p = (call ≡ Unbind h) × FeedsSynchronous n (part_of p) × IsHeldByFed n h (part_of p)
+-- the change, of the streams that the instrument feeds, stands for this call, where the next handle has the number `next`
+abbrev pub StandsFor : ℕ → Change → ℕ → Call → Piped → Type 0
+StandsFor n (change.Prepared value) next call p = (l : List KeyValue) × (call ≡ Record n (number_of value) l) × IsReadyFor false n l p × FeedsType n (is_signed_value value) (part_of p)
+StandsFor n (change.Empty value) next call p = (call ≡ Record n (number_of value) []) × FeedsType n (is_signed_value value) (part_of p)
+StandsFor n (change.Held h place value) next call p = (call ≡ RecordBound h (number_of value)) × FeedsType n (is_signed_value value) (part_of p) × FeedsSynchronous n (part_of p) × IsHeldByFed n h (part_of p)
+StandsFor n (change.Bind h) next call p = (l : List KeyValue) × (call ≡ Bind n l) × (h ≡ next) × IsReadyFor true n l p × FeedsSynchronous n (part_of p) × IsNewAt h (part_of p)
+StandsFor n (change.Unbind h) next call p = (call ≡ Unbind h) × FeedsSynchronous n (part_of p) × IsHeldByFed n h (part_of p)

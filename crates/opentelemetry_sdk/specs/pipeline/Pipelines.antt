@@ -11,7 +11,7 @@ use Rattle.otel_model.specs.Machine.{changed_at, part_after_demand}
 use Rattle.otel_model.specs.Sent.{is_fed, set_for}
 use Rattle.otel_model.specs.Streams.{is_delta, is_drained}
 use Rattle.otel_model_stream.specs.Totals.{has_number}
-use Rattle.opentelemetry_sdk.specs.pipeline.Streams.{StreamContents, without_pending, contents_after_collection}
+use Rattle.opentelemetry_sdk.specs.pipeline.Streams.{StreamContents, used_for, without_pending, contents_after_collection}
 
 -- a reader's answers; its streams, in order of making; for each instrument the numbers of those that it feeds; and the
 -- seed from which it hashes the sets of records. A demand that drops is kept among the streams, so that it is known
@@ -162,10 +162,10 @@ changed_each f ns xs = fold (λ ys n. changed_at n f ys) xs ns
 abbrev pub fed_by : ℕ → Piped → List ℕ
 fed_by instrument p = or_else (slice_get p.feeds instrument) []
 
--- the set of these attributes is prepared in the stream, for a record or, if it `binds`, for a bind: then room for a handle is
--- made too, unless the stream is drained
+-- the entry that the set of these attributes uses is prepared in the stream, for a record or, if it `binds`, for a bind: then
+-- room for a handle is made too, unless the stream is drained
 pub record IsReady (binds : Bool) (l : List KeyValue) (k : StreamContents) : Type 0 where
-  pub set : k.pending ≡ Some (set_for k.stream.demand l)
+  pub set : k.pending ≡ Some (used_for (set_for k.stream.demand l) k)
   pub room : binds ≡ true → k.room ≡ not (is_drained k.stream.demand)
 
 -- the same of a stream, if there is one

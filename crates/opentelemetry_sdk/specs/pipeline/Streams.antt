@@ -7,7 +7,7 @@ use Rattle.otel_data.specs.declared.collections.Metric.{Metric}
 use Rattle.otel_data.specs.declared.numbers.NumberValue.{NumberValue}
 use Rattle.otel_model_stream.specs.Sets.{AttributeSet, none_set}
 use Rattle.otel_model_stream.specs.Folds.{Amount, empty_of, sample_of, wrap}
-use Rattle.otel_model_stream.specs.Entries.{Table, Point, place, recorded_at}
+use Rattle.otel_model_stream.specs.Entries.{Table, Point, entry_for, place, recorded_at}
 use Rattle.otel_model_stream.specs.Events.{Kind, held_by}
 use Rattle.otel_model_stream.specs.Machine.{points, machine_after_collection, bind_handle, through, let_go}
 use Rattle.otel_model_stream.specs.Observed.{difference}
@@ -24,8 +24,8 @@ use Rattle.otel_model.specs.Streams.{aggregate_of, is_drained, is_monotonic_kind
 use Rattle.opentelemetry_sdk.specs.declared.pipeline.change.Change.{Change}
 use Rattle.opentelemetry_sdk.specs.declared.pipeline.change.Change.TheVariants as change
 
--- a stream, whether each collection resets it, the set of the prepared record or bind, if any, and whether room is made
--- for a handle
+-- a stream, whether each collection resets it, the set of the entry that the prepared record or bind uses, if any, and
+-- whether room is made for a handle
 pub record StreamContents : Type 0 where
   pub stream : Stream
   pub resets : Bool
@@ -87,6 +87,10 @@ abbrev pub new_contents : Bool → Demand → ℕ → StreamContents
 new_contents resets d now = record { stream = new_stream now d; resets = resets; pending = None; room = false }
 
 -- ======== records ========
+-- the set of the entry that a record or a bind of the set uses
+abbrev pub used_for : AttributeSet → StreamContents → AttributeSet
+used_for s h = entry_for s (place h.stream.demand.limit (empty_of (aggregate_of h.stream.demand)) s h.stream.machine.table).entries
+
 -- with the total of the records alone, once one is counted
 abbrev pub with_counted : Amount → StreamContents → StreamContents
 with_counted v h = record h { stream = record h.stream { recorded = wrap (h.stream.recorded + size (aggregate_of h.stream.demand) v) } }

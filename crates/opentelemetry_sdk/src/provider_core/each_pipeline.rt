@@ -6,7 +6,7 @@ ghost use Rattle.std.specs.Option.{option_map};
 ghost use Rattle.otel_model.specs.Calls as model;
 ghost use Rattle.otel_model.specs.Machine as machine;
 ghost use Rattle.otel_model.specs.Machine.{part_after_call};
-ghost use Rattle.opentelemetry_sdk.specs.pipeline.Handles.{FeedsSynchronous, IsNewAt, Makes};
+ghost use Rattle.opentelemetry_sdk.specs.pipeline.Handles.{FeedsSynchronous, IsNewAt, StandsFor};
 ghost use Rattle.opentelemetry_sdk.specs.pipeline.Known.{is_known_at};
 ghost use Rattle.opentelemetry_sdk.specs.pipeline.Pipelines.{part_of, has_stream_at, HashesFrom, IsReadyFor};
 ghost use Rattle.opentelemetry_sdk.specs.pipeline.Views.{views_answering};
@@ -46,7 +46,7 @@ fn prepare_all(
 /// it bound in one of them. It mostly has the same place in all.
 #[inline(always)]
 pub(crate) fn change_all(pipelines: &mut [Pipeline], instrument: usize, change: Change) -> usize
-    ensures { (next : ℕ) (call : model.Call) → All (Makes instrument change next call) pipelines.old → map part_of pipelines.new ≡ map (part_after_call next call) (map part_of pipelines.old) }
+    ensures { (next : ℕ) (call : model.Call) → All (StandsFor instrument change next call) pipelines.old → map part_of pipelines.new ≡ map (part_after_call next call) (map part_of pipelines.old) }
 {
     if pipelines.len() == 1 {
         return pipelines[0].change(instrument, change);

@@ -1,7 +1,7 @@
 use Rattle.std.proofs.Common.{◌∙◌, arith, sym, subst}
 use Rattle.std.proofs.lemmas.Simd.{map-map}
 use Rattle.otel_model.specs.Machine.{part_after_call}
-use Rattle.opentelemetry_sdk.specs.pipeline.Handles.{Makes}
+use Rattle.opentelemetry_sdk.specs.pipeline.Handles.{StandsFor}
 use Rattle.opentelemetry_sdk.specs.pipeline.Pipelines.{Piped, part_of}
 use Rattle.opentelemetry_sdk.proofs.pipeline.PipelinesLemmas.{done-none, done-more, done-all}
 use Rattle.opentelemetry_sdk.proofs.Held.{done-alone}
@@ -20,7 +20,7 @@ loop-i-preserved c = λ next call makes.
     let so_far = c.loop-i.invariant next call makes in
     let d : Piped = c.index-pipelines-i.result in
     done-more part_of (λ (p : Piped). part_after_call next call (part_of p)) c.args.pipelines.now c.loop-i.pipelines c.loop-i.i d c.change-in-loop-i.new.self (omega arith)
-    (c.change-in-loop-i.ensures next call (subst (Makes c.args.instrument c.args.change next call) (sym (so_far.rest c.loop-i.i (omega arith) d)) (makes c.loop-i.i d (omega (arith, so_far.long))))) so_far
+    (c.change-in-loop-i.ensures next call (subst (StandsFor c.args.instrument c.args.change next call) (sym (so_far.rest c.loop-i.i (omega arith) d)) (makes c.loop-i.i d (omega (arith, so_far.long))))) so_far
 
 pub returns : goal.returns
 returns c = λ next call makes. done-all part_of (λ (p : Piped). part_after_call next call (part_of p)) c.args.pipelines.now c.loop-i.pipelines c.loop-i.i (omega arith) (c.loop-i.invariant next call makes) ∙ sym (map-map (part_after_call next call) part_of c.args.pipelines.now)

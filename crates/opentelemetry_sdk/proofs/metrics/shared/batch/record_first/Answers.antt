@@ -9,7 +9,7 @@ use Rattle.opentelemetry_sdk.specs.Correspondence.{number_of}
 use Rattle.opentelemetry_sdk.specs.States.{FeedType}
 use Rattle.opentelemetry_sdk.specs.pipeline.Handles.{FeedsSynchronous, IsNewAt, IsHeldByFed}
 use Rattle.opentelemetry_sdk.specs.pipeline.Pipelines.{part_of}
-use Rattle.opentelemetry_sdk.proofs.Held.{held-makes}
+use Rattle.opentelemetry_sdk.proofs.Held.{held-stands}
 use Rattle.opentelemetry_sdk.proofs.Holding.{holding-new, holding-first, bound-fed, synchronous-after, typed-after}
 use Rattle.opentelemetry_sdk.proofs.metrics.shared.batch.record_first.Goals as goal
 
@@ -28,7 +28,7 @@ returns-in-Ok-bind_or_none-clause-made c = λ first e ss ps at is.
     let bind = Bind n c.given-given.result in
     let bound = c.in-Ok-bind_or_none.ensures.ok in
     let away : EachOf (IsNewAt c.args.handle) qs = (let h = c.requires.holding in subst (λ k. EachOf (IsNewAt k) qs) (sym h.3) (holding-new h.0 h.1 c.args.holdings.now h.2 qs c.args.listed.place h.4.0 c.requires.new h.5)) in
-    let makes = held-makes n c.args.handle c.in-Ok-bind_or_none.place c.args.listed.value c.bind_or_none.new.pipelines
+    let makes = held-stands n c.args.handle c.in-Ok-bind_or_none.place c.args.listed.value c.bind_or_none.new.pipelines
     (subst (FeedType n v) (sym bound) (typed-after n c.args.handle v bind qs c.requires.typed))
     (subst (EachOf (FeedsSynchronous n)) (sym bound) (synchronous-after n c.args.handle bind qs c.requires.synchronous))
     (subst (EachOf (IsHeldByFed n c.args.handle)) (sym bound) (bound-fed c.args.handle n c.given-given.result qs away)) in

@@ -8,7 +8,7 @@ use Rattle.opentelemetry_sdk.specs.Correspondence.{number_of}
 use Rattle.opentelemetry_sdk.specs.pipeline.Handles.{IsHeldByFed}
 use Rattle.opentelemetry_sdk.specs.pipeline.Pipelines.{part_of}
 use Rattle.opentelemetry_sdk.specs.declared.metrics.shared.series.Series.{Series}
-use Rattle.opentelemetry_sdk.proofs.Held.{held-makes}
+use Rattle.opentelemetry_sdk.proofs.Held.{held-stands}
 use Rattle.opentelemetry_sdk.proofs.Holding.{holding-fed, holding-held, holding-other, IfSome-weaker}
 use Rattle.opentelemetry_sdk.proofs.metrics.shared.batch.record_listed.Goals as goal
 
@@ -20,7 +20,7 @@ returns-in-Some-clause-made c = λ ss ps at is.
     let held = subst (λ (s : Series). EachOf (IsHeldByFed s.instrument handle) (map part_of c.args.pipelines.now)) h.2.1
     (holding-fed c.args.first h.0 c.args.holdings.now h.1 (map part_of c.args.pipelines.now) h.3 c.args.listed.place (sym c.in-Some.ensures)) in
     subst (IsHolding c.args.first ss c.args.holdings.now (map (part_after_call 0 (call_listed c.args.listed)) ps))
-    (sym (c.change_all.ensures 0 (RecordBound handle (number_of c.args.listed.value)) (held-makes n handle c.in-Some.place c.args.listed.value c.args.pipelines.now c.requires.typed c.requires.synchronous held)))
+    (sym (c.change_all.ensures 0 (RecordBound handle (number_of c.args.listed.value)) (held-stands n handle c.in-Some.place c.args.listed.value c.args.pipelines.now c.requires.typed c.requires.synchronous held)))
     (holding-held c.args.first ss c.args.holdings.now ps (map part_of c.args.pipelines.now) is c.args.listed at (sym c.in-Some.ensures))
 
 pub returns-then-has_many-clause-made : goal.returns-then-has_many-clause-made

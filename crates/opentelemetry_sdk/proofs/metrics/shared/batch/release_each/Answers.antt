@@ -5,7 +5,7 @@ use Rattle.opentelemetry_sdk.specs.Batches.{IsHolding}
 use Rattle.opentelemetry_sdk.specs.pipeline.Handles.{FeedsSynchronous, IsHeldByFed}
 use Rattle.opentelemetry_sdk.specs.pipeline.Pipelines.{part_of}
 use Rattle.opentelemetry_sdk.specs.declared.metrics.shared.series.Series.{Series}
-use Rattle.opentelemetry_sdk.proofs.Held.{unbind-makes}
+use Rattle.opentelemetry_sdk.proofs.Held.{unbind-stands}
 use Rattle.opentelemetry_sdk.proofs.Holding.{holding-end, holding-fed, holding-inside, holding-none, holding-synchronous}
 use Rattle.opentelemetry_sdk.proofs.Marks.{last-there}
 use Rattle.opentelemetry_sdk.proofs.metrics.shared.batch.release_each.Goals as goal
@@ -33,7 +33,7 @@ loop-series-preserved c = λ ps first.
     let h : ℕ = c.args.first + c.in-Some.series in
     let is = subst (λ (hs : List ℕ). IsHolding c.args.first ss hs ps qs) c.in-Some.ensures.last (c.loop-series.invariant ps first) in
     let there = last-there c.release.new.self c.in-Some.series in
-    let makes = unbind-makes c.instrument-instrument.result h c.loop-series.pipelines
+    let makes = unbind-stands c.instrument-instrument.result h c.loop-series.pipelines
     (subst (λ n. EachOf (FeedsSynchronous n) qs) (sym c.instrument-instrument.ensures) (holding-synchronous c.args.first ss held ps qs is c.in-Some.series there))
     (subst (λ n. EachOf (IsHeldByFed n h) qs) (sym c.instrument-instrument.ensures) (holding-fed c.args.first ss held ps qs is c.in-Some.series there)) in
     subst (IsHolding c.args.first ss c.release.new.self ps) (sym (c.change_all.ensures 0 (Unbind h) makes)) (holding-end c.args.first ss c.release.new.self c.in-Some.series ps qs is)
