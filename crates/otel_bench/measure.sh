@@ -58,6 +58,15 @@ instrument() {
     echo "build 0 $sort instrument 100"
 }
 
+# Records of sets past the limit, once the overflow entry is there.
+past_limit() {
+    instrument "$@"
+    sets 0 2500
+    next
+    last
+    sets 2000 2500
+}
+
 # Records at an instrument of this sort of one set: as it comes first, and as it comes then.
 known() {
     sort=$1 before=$2 then=$3
@@ -201,13 +210,8 @@ case_named() {
             last
             sets 0 2000
             ;;
-        past_limit4)
-            instrument $counter "$one"
-            sets 0 2500
-            next
-            last
-            sets 2000 2500
-            ;;
+        past_limit4) past_limit $counter "$one" ;;
+        past_limit4_two_readers) past_limit $counter "$one" "$one" ;;
         end*) ends "${1#end}" ;;
         allow*) allowed "${1#allow}" ;;
         burst*) after_burst "${1#burst}" ;;
@@ -311,7 +315,7 @@ done
 for name in new4 typed_new4; do
     row $name 0 2000 1
 done
-for name in past_limit4 typed_past_limit4; do
+for name in past_limit4 typed_past_limit4 past_limit4_two_readers typed_past_limit4_two_readers; do
     row $name 1000 6000 1
 done
 for name in worker4 worker4_submit worker4_ten worker4_ten_submit worker4_hundred_submit worker_series4 \
