@@ -409,28 +409,7 @@ impl<A: Aggregator> ValueMap<A> {
             self.table.touch(number, value);
             return Ok(());
         }
-        self.measure_unknown(value, &list, attributes.as_slice())?;
-        Ok(())
-    }
-
-    /// Does what `measure` does with attributes that, as given, lead to no entry. Out of line, as few records need it.
-    #[inline(never)]
-    fn measure_unknown(
-        &mut self,
-        value: A::PreComputedValue,
-        list: &HashedSet,
-        attributes: &[KeyValue],
-    ) -> Result<(), Fault>
-        requires list { list.now.key ≡ attributes.now }
-        requires unknown { knows attributes.now (known_of self.old) ≡ false }
-        ensures ok { OnOk result (known_of self.new ≡ measured_list attributes.now (A.sample value) (known_of self.old)) }
-        ensures numbers { KeepNumbers self.old.numbers self.new.numbers }
-        ensures err { OnErr result (known_of self.new ≡ known_of self.old) }
-        ensures spent { self.new.pending ≡ None }
-        ensures placed { IsTrue (is_placed (canon attributes.now) self.old.state.table.entries) → IsOk result }
-        ensures only_memory { IsOkUnless result Fault.OutOfMemory }
-    {
-        self.prepare_unknown(list, None, attributes)?;
+        self.prepare_unknown(&list, None, attributes.as_slice())?;
         self.commit(value);
         Ok(())
     }
