@@ -1,6 +1,7 @@
 -- Where a point's attributes are canonical, they are the set of a list exactly if they are the list's canonical form.
 use Rattle.std.specs.Prelude.{◌≡◌, ℕ, Bool, true, false, cond, ◌&&◌, ◌||◌, T, List, [], ◌∷◌, map, Option, Some, None, ◌⊎◌, is_some}
 use Rattle.std.proofs.Common.{refl, sym, ap, subst, ◌∙◌, inl, inr, true≢false}
+use Rattle.std.proofs.lemmas.Bool.{and_parts, and_from, or_right}
 use Rattle.std.specs.Cmp.{both_ways, Equal-is}
 use Rattle.std.specs.Cmp.Lexicographic.{nat_list_cmp_total, bytes_decides}
 use Rattle.std.specs.FinMap.Entries.{is_sorted, below_all}
@@ -15,13 +16,6 @@ use Rattle.otel_common.specs.declared.attributes.KeyValue.{KeyValue}
 use Rattle.otel_common.specs.declared.attributes.Value.{Value}
 use Rattle.otel_common.proofs.CanonLaws.{canon-unique, canon-sorted, key_cmp-IsAntisymmetric, value_at, value_at-canon}
 use Rattle.otel_data.specs.Values.{is_this, is_first, has_key, is_set}
-
-both_true : (a b : Bool) → (a && b) ≡ true → (a ≡ true) × (b ≡ true)
-both_true true b h = (refl, h)
-both_true false b h = absurd (true≢false (sym h))
-
-both : (a b : Bool) → a ≡ true → b ≡ true → (a && b) ≡ true
-both a b p q = rw (p, q) refl
 
 T_first : (a b : Bool) → T (a && b) → T a
 T_first true b p = tt
@@ -61,7 +55,7 @@ is_this_from own (Some given) h = ap (λ g. Some g) ((key_value_eq-Decides given
 agree : (l s : List KeyValue) → list_all (is_first l) s ≡ true → (q : List ℕ) → (found q s ≡ found q l) ⊎ ((found q s ≡ None) × (has_key s q ≡ false))
 agree l [] h q = inr (refl, refl)
 agree l (x ∷ s) h q =
-    let parts : (is_first l x ≡ true) × (list_all (is_first l) s ≡ true) = both_true _ _ h in
+    let parts : (is_first l x ≡ true) × (list_all (is_first l) s ≡ true) = and_parts _ _ h in
     elim (bytes_eq x.key q) as (λ b. bytes_eq x.key q ≡ b → (cond b (Some x) (found q s) ≡ found q l) ⊎ ((cond b (Some x) (found q s) ≡ None) × ((b || has_key s q) ≡ false))) [
       | true ↦ λ e. inl (sym (subst (λ k. found k l ≡ Some x) ((bytes_decides x.key q).0 e) (is_this_from x (found x.key l) parts.0)))
       | false ↦ λ e. agree l s parts.1 q
@@ -70,7 +64,7 @@ agree l (x ∷ s) h q =
 absent : (s l : List KeyValue) → list_all (λ given. has_key s given.key) l ≡ true → (q : List ℕ) → has_key s q ≡ false → found q l ≡ None
 absent s [] h q n = refl
 absent s (y ∷ l) h q n =
-    let parts : (has_key s y.key ≡ true) × (list_all (λ given. has_key s given.key) l ≡ true) = both_true _ _ h in
+    let parts : (has_key s y.key ≡ true) × (list_all (λ given. has_key s given.key) l ≡ true) = and_parts _ _ h in
     elim (bytes_eq y.key q) as (λ b. bytes_eq y.key q ≡ b → cond b (Some y) (found q l) ≡ None) [
       | true ↦ λ e. absurd (true≢false (sym (subst (λ k. has_key s k ≡ true) ((bytes_decides y.key q).0 e) parts.0) ∙ n))
       | false ↦ λ e. absent s l parts.1 q n
@@ -78,7 +72,7 @@ absent s (y ∷ l) h q n =
 
 answers : (l s : List KeyValue) → is_set l s ≡ true → (q : List ℕ) → value_at q s ≡ value_at q l
 answers l s h q =
-    let parts : (list_all (is_first l) s ≡ true) × (list_all (λ given. has_key s given.key) l ≡ true) = both_true _ _ h in
+    let parts : (list_all (is_first l) s ≡ true) × (list_all (λ given. has_key s given.key) l ≡ true) = and_parts _ _ h in
     let same : found q s ≡ found q l = elim (agree l s parts.0 q) [ inl e ↦ e | inr p ↦ p.0 ∙ sym (absent s l parts.1 q p.1) ] in
     reads q s ∙ ap read same ∙ sym (reads q l)
 
@@ -106,21 +100,17 @@ firsts l [] up h = refl
 firsts l (x ∷ s) up h =
     let own : found x.key (x ∷ s) ≡ Some x = ap (λ b. cond b (Some x) (found x.key s)) (itself x.key) in
     let here : read (found x.key l) ≡ Some x.value = elim (h x.key) [ inl e ↦ cc | inr e ↦ sym e ∙ ap read own ] in
-    both _ _ (first_from l x here)
+    and_from _ _ (first_from l x here)
     (firsts l s (T_second _ _ up)
     (λ q. elim (bytes_eq x.key q) as (λ b. bytes_eq x.key q ≡ b → (cond b (Some x) (found q s) ≡ None) ⊎ (read (cond b (Some x) (found q s)) ≡ read (found q l)) → (found q s ≡ None) ⊎ (read (found q s) ≡ read (found q l))) [
       | true ↦ λ e k. inl (subst (λ q. found q s ≡ None) ((bytes_decides x.key q).0 e) (below_none x.key s (T_first _ _ up)))
       | false ↦ λ e k. k
     ] refl (h q)))
 
-or_right : (a b : Bool) → b ≡ true → (a || b) ≡ true
-or_right true b h = refl
-or_right false b h = h
-
 all_keys : (s l : List KeyValue) → ((q : List ℕ) → has_key l q ≡ true → has_key s q ≡ true) → list_all (λ given. has_key s given.key) l ≡ true
 all_keys s [] h = refl
 all_keys s (y ∷ l) h =
-    both _ _ (h y.key (ap (λ b. b || has_key l y.key) (itself y.key)))
+    and_from _ _ (h y.key (ap (λ b. b || has_key l y.key) (itself y.key)))
     (all_keys s l (λ q e. h q (or_right (bytes_eq y.key q) (has_key l q) e)))
 
 has_value : (q : List ℕ) (l : List KeyValue) → has_key l q ≡ is_some (read (found q l))
@@ -132,7 +122,7 @@ same_values l q = sym (reads q (canon l)) ∙ value_at-canon l q ∙ reads q l
 
 canon_is_set : (l : List KeyValue) → is_set l (canon l) ≡ true
 canon_is_set l =
-    both _ _ (firsts l (canon l) (canon-sorted l) (λ q. inr (same_values l q)))
+    and_from _ _ (firsts l (canon l) (canon-sorted l) (λ q. inr (same_values l q)))
     (all_keys (canon l) l (λ q e. has_value q (canon l) ∙ ap is_some (same_values l q) ∙ sym (has_value q l) ∙ e))
 
 pub canonical_set : (recorded attributes : List KeyValue) → is_set attributes (canon recorded) ≡ set_eq (canon recorded) (canon attributes)

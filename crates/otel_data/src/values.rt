@@ -3,10 +3,10 @@
 ghost use Rattle.std.specs.Prelude.{◌≡◌};
 ghost use Rattle.std.specs.List.{find, list_all};
 ghost use Rattle.std.specs.Option.{option_map};
-ghost use Rattle.otel_data.specs.Values.{any_count_in, count_at, count_in, has_key, is_first, is_set, metric_in, number_in, value_at, value_in};
+ghost use Rattle.otel_data.specs.Values.{any_count_in, count_at, count_in, has_key, is_first, is_set, number_in, value_at, value_in};
 
 use crate::aggregated::{AggregatedMetrics, MetricData};
-use crate::collections::{Metric, ResourceMetrics};
+use crate::collections::ResourceMetrics;
 use crate::numbers::NumberValue;
 use crate::places::Point;
 use otel_common::attributes::KeyValue;
@@ -19,7 +19,7 @@ impl ResourceMetrics {
     pub fn value(&self, scope: &str, metric: &str, attributes: &[KeyValue]) -> Option<NumberValue>
         ensures { result ≡ value_at self.now scope.now metric.now attributes.now }
     {
-        let metric = self.metric(scope, metric)?;
+        let metric = self.scope(scope)?.metric(metric)?;
         number_in(metric.data(), attributes)
     }
 
@@ -30,17 +30,8 @@ impl ResourceMetrics {
     pub fn count(&self, scope: &str, metric: &str, attributes: &[KeyValue]) -> Option<u64>
         ensures { result ≡ count_at self.now scope.now metric.now attributes.now }
     {
-        let metric = self.metric(scope, metric)?;
+        let metric = self.scope(scope)?.metric(metric)?;
         any_count_in(metric.data(), attributes)
-    }
-
-    fn metric(&self, scope: &str, name: &str) -> Option<&Metric>
-        ensures { option_map (λ found. found.now) result ≡ metric_in self.now scope.now name.now }
-    {
-        match self.scope(scope) {
-            Some(metrics) => metrics.metric(name),
-            None => None,
-        }
     }
 }
 
