@@ -107,20 +107,17 @@ using limit empty s entries = by (is_placed s entries) (nat_lt (number_counted e
         let is : entry_for s (entries_with_place limit empty s entries) ≡ u = ap (entry_for s) (sym p.state) ∙ p.goal in
         subst (Using limit empty s entries) (sym is) (record { used = e; place = sym q.state ∙ p.state; goal = ap (entry_for u) (sym p.state) ∙ q.goal })
 
-    apart : (a b : Bool) → (a || b) ≡ false → (a ≡ false) × (b ≡ false)
-    apart a b e = or_parts a b e
-
     by : (placed few over : Bool) → is_placed s entries ≡ placed → nat_lt (number_counted entries) limit ≡ few → has over_set entries ≡ over → Using limit empty s entries (entry_for s (entries_with_place limit empty s entries))
     by true few over p f o = to entries s (place-there limit empty s entries p) (place-there limit empty s entries p) (ap (λ b. cond (b || nat_lt (number_counted entries) limit) s over_set) p)
     by false true over p f o =
-        let q = apart (set_eq s none_set) (has s entries) p in
+        let q = or_parts (set_eq s none_set) (has s entries) p in
         let new = place-admitted limit empty s entries q.0 q.1 f in
         to _ s new new (λ i. cond (p i || f i) s over_set)
     by false false true p f o =
-        let q = apart (set_eq s none_set) (has s entries) p in
+        let q = or_parts (set_eq s none_set) (has s entries) p in
         to entries over_set (place-over limit empty s entries q.0 q.1 f o) (place-there limit empty over_set entries o) (λ i. cond (p i || f i) s over_set)
     by false false false p f o =
-        let q = apart (set_eq s none_set) (has s entries) p in
+        let q = or_parts (set_eq s none_set) (has s entries) p in
         to _ over_set (place-over_made limit empty s entries q.0 q.1 f o) (place-over_made limit empty over_set entries refl o f o) (λ i. cond (p i || f i) s over_set)
 
 pub used-bound : (m : MapState) (s : AttributeSet) → used_by (nat_lt (number_counted m.table.entries) m.limit) s m.table.entries ≡ bound_to s m
