@@ -7,7 +7,7 @@ use Rattle.std.proofs.lemmas.Simd.{map-map}
 use Rattle.otel_common.specs.declared.attributes.KeyValue.{KeyValue}
 use Rattle.otel_data.specs.declared.numbers.NumberValue.{NumberValue}
 use Rattle.otel_stream.specs.declared.observation.Observed.{Observed}
-use Rattle.otel_model_stream.specs.Events.{held_by}
+use Rattle.otel_model_stream.specs.Events.{Event, held_by}
 use Rattle.otel_model_stream.specs.Sets.{AttributeSet, none_set}
 use Rattle.otel_aggregate.specs.Any.{is_signed_value, amount_of}
 use Rattle.otel_model.specs.Calls.{is_observable}
@@ -18,7 +18,7 @@ use Rattle.opentelemetry_sdk.specs.pipeline.Observations.{observed_all, observed
 use Rattle.opentelemetry_sdk.specs.pipeline.Pipelines.{all_without_pending}
 use Rattle.opentelemetry_sdk.specs.declared.pipeline.change.Change.{Change}
 use Rattle.opentelemetry_sdk.specs.declared.pipeline.change.Change.TheVariants as change
-use Rattle.opentelemetry_sdk.specs.pipeline.Streams.{StreamContents, bound_by, committed_by, contents_after, contents_after_record, takes, without_handle, with_update, with_record, without_pending}
+use Rattle.opentelemetry_sdk.specs.pipeline.Streams.{StreamContents, bound_by, committed_by, contents_after, contents_after_record, takes, with_event, with_record, without_pending}
 use Rattle.opentelemetry_sdk.proofs.pipeline.Writes.{unseen-each}
 
 abbrev pub answer_of : StreamContents → Bool × Demand
@@ -40,13 +40,13 @@ changes (change.Prepared value) k = kept-if (takes value k) (committed_by k.pend
     by None = refl
     by (Some s) = refl
 changes (change.Empty value) k = kept-if (takes value k) (with_record none_set (amount_of value) k) k k refl refl
-changes (change.Held h place value) k = kept-if (not (is_drained k.stream.demand) && takes value k) (with_update (held_by h k.stream.machine.live) (amount_of value) k) k k refl refl
+changes (change.Held h place value) k = kept-if (not (is_drained k.stream.demand) && takes value k) (with_event (Event.RecordBound h (amount_of value)) k) k k refl refl
 changes (change.Bind h) k = kept-if (not (is_observable k.stream.demand.identity.kind) && (k.room && is_none (held_by h k.stream.machine.live))) (bound_by k.pending h k) k k (by k.pending) refl
   where
     by : (o : Option AttributeSet) → answer_of (bound_by o h k) ≡ answer_of k
     by None = refl
     by (Some s) = refl
-changes (change.Unbind h) k = kept-if (is_drained k.stream.demand) k (without_handle h k) k refl refl
+changes (change.Unbind h) k = kept-if (is_drained k.stream.demand) k (with_event (Event.Unbind h) k) k refl refl
 
 pub records : (value : NumberValue) (l : List KeyValue) → KeepsAnswer (contents_after_record value l)
 records value l k = kept-if (beq (is_signed_value value) k.stream.demand.identity.signed) (with_record (set_for k.stream.demand l) (amount_of value) k) k k refl refl

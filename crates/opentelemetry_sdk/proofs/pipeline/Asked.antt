@@ -3,7 +3,7 @@ use Rattle.std.proofs.Common.{◌≡◌, ℕ, ◌+◌, ◌==◌, Bool, true, fal
 use Rattle.std.specs.Bool.{beq}
 use Rattle.otel_data.specs.declared.numbers.NumberValue.{NumberValue}
 use Rattle.otel_model_stream.specs.Entries.{Table, at_entry, place, recorded_at, write}
-use Rattle.otel_model_stream.specs.Events.{Handles, held_by, without}
+use Rattle.otel_model_stream.specs.Events.{Event, Handles, held_by, without}
 use Rattle.otel_model_stream.specs.Machine.{Machine, let_go}
 use Rattle.otel_model_stream.specs.Folds.{Amount, sample_of, wrap}
 use Rattle.otel_model_stream.specs.Sets.{AttributeSet}
@@ -14,7 +14,7 @@ use Rattle.otel_model.specs.Streams.{aggregate_of}
 use Rattle.otel_aggregate.specs.Any.{is_signed_value, amount_of, any_after_update, any_after_unbind, is_updated, takes_bound}
 use Rattle.otel_aggregate.specs.Streams.{AggregateState, AggregateContents, recorded_set, stream_after_unbind, taken_from, unbind_at, update_at}
 use Rattle.opentelemetry_sdk.specs.declared.pipeline.change.Change.TheVariants as change
-use Rattle.opentelemetry_sdk.specs.pipeline.Streams.{StreamContents, IsAsked, asked_aggregate, contents_of, with_record, with_update, contents_after, committed_by, without_handle}
+use Rattle.opentelemetry_sdk.specs.pipeline.Streams.{StreamContents, IsAsked, asked_aggregate, contents_of, with_event, with_record, contents_after, committed_by}
 
 -- ======== the aggregate that was asked for ========
 -- a record leaves the aggregate the one that was asked for
@@ -114,9 +114,9 @@ module _ (d : Demand) (a : AggregateContents) (h place : ℕ) (value : NumberVal
   total = wrap (recorded + size (aggregate_of d) (amount_of value))
 
   -- with what the stream has of the handle
-  used-as : (o : Option AttributeSet) → contents_of d (used o (amount_of value) a) (if_held o total recorded) exported ≡ with_update o (amount_of value) seen
-  used-as None = refl
-  used-as (Some g) = ap (λ (st : AggregateState). record {
+  used-as : (o : Option AttributeSet) → held_by h a.live ≡ o → contents_of d (used o (amount_of value) a) (if_held o total recorded) exported ≡ with_event (Event.RecordBound h (amount_of value)) seen
+  used-as None e = rw e refl
+  used-as (Some g) e = rw e (ap (λ (st : AggregateState). record {
     stream = record {
       demand = d;
       machine = record { table = at_entry g (write (sample_of st.aggregate (amount_of value))) a.state.map_state.table; live = a.live };
@@ -128,26 +128,26 @@ module _ (d : Demand) (a : AggregateContents) (h place : ℕ) (value : NumberVal
     resets = a.state.resets;
     pending = None;
     room = a.room;
-  }) is.state
+  }) is.state)
 
-  used-then : (b : Bool) (o : Option AttributeSet) → (b && is_some o) ≡ true → contents_of d (cond b (used o (amount_of value) a) a) total exported ≡ cond b (with_update o (amount_of value) seen) seen
-  used-then true (Some g) t = used-as (Some g)
-  used-then true None t = absurd (true≢false (sym t))
-  used-then false o t = absurd (true≢false (sym t))
+  used-then : (b : Bool) (o : Option AttributeSet) → held_by h a.live ≡ o → (b && is_some o) ≡ true → contents_of d (cond b (used o (amount_of value) a) a) total exported ≡ cond b (with_event (Event.RecordBound h (amount_of value)) seen) seen
+  used-then true (Some g) e t = used-as (Some g) e
+  used-then true None e t = absurd (true≢false (sym t))
+  used-then false o e t = absurd (true≢false (sym t))
 
-  used-else : (b : Bool) (o : Option AttributeSet) → (b && is_some o) ≡ false → contents_of d (cond b (used o (amount_of value) a) a) recorded exported ≡ cond b (with_update o (amount_of value) seen) seen
-  used-else true (Some g) t = absurd (true≢false t)
-  used-else true None t = used-as None
-  used-else false o t = refl
+  used-else : (b : Bool) (o : Option AttributeSet) → held_by h a.live ≡ o → (b && is_some o) ≡ false → contents_of d (cond b (used o (amount_of value) a) a) recorded exported ≡ cond b (with_event (Event.RecordBound h (amount_of value)) seen) seen
+  used-else true (Some g) e t = absurd (true≢false t)
+  used-else true None e t = used-as None e
+  used-else false o e t = refl
 
-  same-test : cond (takes_bound value a) (with_update (held_by h a.live) (amount_of value) seen) seen ≡ contents_after (change.Held h place value) seen
-  same-test = λ i. cond (not (is.drains i) && beq (is_signed_value value) (is.signed i)) (with_update (held_by h a.live) (amount_of value) seen) seen
+  same-test : cond (takes_bound value a) (with_event (Event.RecordBound h (amount_of value)) seen) seen ≡ contents_after (change.Held h place value) seen
+  same-test = λ i. cond (not (is.drains i) && beq (is_signed_value value) (is.signed i)) (with_event (Event.RecordBound h (amount_of value)) seen) seen
 
   pub update-then : (new : AggregateContents) → new ≡ any_after_update h value a → is_updated h value a ≡ true → contents_of d new total exported ≡ contents_after (change.Held h place value) seen
-  update-then new e t = ap (λ x. contents_of d x total exported) e ∙ (used-then (takes_bound value a) (held_by h a.live) t ∙ same-test)
+  update-then new e t = ap (λ x. contents_of d x total exported) e ∙ (used-then (takes_bound value a) (held_by h a.live) refl t ∙ same-test)
 
   pub update-else : (new : AggregateContents) → new ≡ any_after_update h value a → is_updated h value a ≡ false → contents_of d new recorded exported ≡ contents_after (change.Held h place value) seen
-  update-else new e t = ap (λ x. contents_of d x recorded exported) e ∙ (used-else (takes_bound value a) (held_by h a.live) t ∙ same-test)
+  update-else new e t = ap (λ x. contents_of d x recorded exported) e ∙ (used-else (takes_bound value a) (held_by h a.live) refl t ∙ same-test)
 
 -- ======== the end of a handle ========
 without-none : (h : ℕ) (hs : Handles) → held_by h hs ≡ None → without h hs ≡ hs
@@ -175,10 +175,10 @@ module _ (d : Demand) (a : AggregateContents) (h recorded exported : ℕ) (is : 
   ended-as (Some g) e = refl
 
   ended-by : (b : Bool) → a.drains ≡ b → contents_of d (cond b a (stream_after_unbind h a)) recorded exported ≡ contents_after (change.Unbind h) (contents_of d a recorded exported)
-  ended-by true e = ap (λ c. cond c (contents_of d a recorded exported) (without_handle h (contents_of d a recorded exported))) (sym e ∙ is.drains)
+  ended-by true e = ap (λ c. cond c (contents_of d a recorded exported) (with_event (Event.Unbind h) (contents_of d a recorded exported))) (sym e ∙ is.drains)
   ended-by false e =
       ended-as (held_by h a.live) refl
-      ∙ ap (λ c. cond c (contents_of d a recorded exported) (without_handle h (contents_of d a recorded exported))) (sym e ∙ is.drains)
+      ∙ ap (λ c. cond c (contents_of d a recorded exported) (with_event (Event.Unbind h) (contents_of d a recorded exported))) (sym e ∙ is.drains)
 
   pub unbind-as : (new : AggregateContents) → new ≡ any_after_unbind h a → contents_of d new recorded exported ≡ contents_after (change.Unbind h) (contents_of d a recorded exported)
   unbind-as new e = ap (λ (x : AggregateContents). contents_of d x recorded exported) e ∙ ended-by a.drains refl

@@ -6,8 +6,8 @@ use Rattle.otel_data.specs.declared.numbers.NumberValue.{NumberValue}
 use Rattle.otel_aggregate.specs.Any.{is_signed_value, amount_of}
 use Rattle.otel_aggregate.proofs.value_map.PlaceLemmas.{used-own, used-placed}
 use Rattle.otel_stream.specs.declared.observation.Observed.{Observed}
-use Rattle.otel_model_stream.specs.Events.{held_by}
-use Rattle.otel_model_stream.specs.Folds.{Amount, empty_of, sample_of, wrap}
+use Rattle.otel_model_stream.specs.Events.{Event, held_by}
+use Rattle.otel_model_stream.specs.Folds.{empty_of, sample_of, wrap}
 use Rattle.otel_model_stream.specs.Machine.{hold, through, let_go}
 use Rattle.otel_model_stream.specs.Maps.{MapState}
 use Rattle.otel_model_stream.specs.Sets.{AttributeSet}
@@ -23,7 +23,7 @@ use Rattle.opentelemetry_sdk.specs.declared.pipeline.change.Change.TheVariants a
 use Rattle.opentelemetry_sdk.specs.pipeline.Handles.{FeedsSynchronous, AreObservableFor, IsNewAt, IsHeldByFed, StandsFor}
 use Rattle.opentelemetry_sdk.specs.pipeline.Observations.{AreObservableIn}
 use Rattle.opentelemetry_sdk.specs.pipeline.Pipelines.{Piped, IsLawful, IsReady, IsReadyFor, IsReadyIfThere, FeedsType, identity_of, is_streamed, model_streams, named_identities, number_of, part_of, part_changed_by, fed_by}
-use Rattle.opentelemetry_sdk.specs.pipeline.Streams.{StreamContents, used_for, with_bind, bound_by, contents_after, with_update, without_handle}
+use Rattle.opentelemetry_sdk.specs.pipeline.Streams.{StreamContents, used_for, with_event, bound_by, contents_after}
 use Rattle.opentelemetry_sdk.proofs.pipeline.Answered.{changes}
 use Rattle.opentelemetry_sdk.proofs.pipeline.Records.{each-sent, fed-at, fits, none-sent, recorded-sent, some_same, there-at, typed-fits}
 
@@ -82,12 +82,12 @@ observable-in os p lawful all i d h j e g k at =
 
 -- ======== binds ========
 bind-if : (answers : model.ReaderAnswers) (h n : ℕ) (l : List KeyValue) (feeds : List (List model.Identity)) (k : StreamContents) (b : Bool) → is_fed feeds n (identity_of k) ≡ b
-    → stream_after answers feeds h (Bind n l) k.stream ≡ (cond b (with_bind h (set_for k.stream.demand l) k) k).stream
+    → stream_after answers feeds h (Bind n l) k.stream ≡ (cond b (with_event (Event.Bind h (set_for k.stream.demand l)) k) k).stream
 bind-if answers h n l feeds k true e = rw e refl
 bind-if answers h n l feeds k false e = rw e refl
 
 -- a prepared bind is one of the set itself
-used-bind : (h : ℕ) (s : AttributeSet) (k : StreamContents) → (with_bind h (used_for s k) k).stream ≡ (with_bind h s k).stream
+used-bind : (h : ℕ) (s : AttributeSet) (k : StreamContents) → (with_event (Event.Bind h (used_for s k)) k).stream ≡ (with_event (Event.Bind h s) k).stream
 used-bind h s k =
     let q : Stream = k.stream in
     let m : MapState = record { limit = q.demand.limit; empty = empty_of (aggregate_of q.demand); table = q.machine.table } in
@@ -110,28 +110,6 @@ bound-sent h n l p lawful ready sync new = each-sent p lawful h n (Bind n l) (co
     ∙ ap (λ b. (cond b (bound_by k.pending h k) k).stream) (sym can))
     (λ i k at s fed. bind-if p.answers h n l (map (named_identities p.streams) p.feeds) k false fed)
 
--- ======== what handles do to one stream ========
--- a record through a handle, by what the stream has of it
-abbrev update_by : Option AttributeSet → Amount → Stream → Stream
-update_by o v q = record {
-  demand = q.demand;
-  machine = through o (sample_of (aggregate_of q.demand) v) q.machine;
-  start = q.start;
-  reported = q.reported;
-  recorded = if_held o (wrap (q.recorded + size (aggregate_of q.demand) v)) q.recorded;
-  exported = q.exported;
-}
-
-update-is : (answers : model.ReaderAnswers) (feeds : List (List model.Identity)) (next h : ℕ) (v : Number) (q : Stream) (o : Option AttributeSet) → held_by h q.machine.live ≡ o → stream_after answers feeds next (RecordBound h v) q ≡ update_by o v.amount q
-update-is answers feeds next h v q o e = ap (λ p. update_by p v.amount q) e
-
--- the end of a handle, by what the stream has of it
-abbrev unbind_by : Option AttributeSet → ℕ → Stream → Stream
-unbind_by o h q = record { demand = q.demand; machine = let_go o h q.machine; start = q.start; reported = q.reported; recorded = q.recorded; exported = q.exported }
-
-unbind-is : (answers : model.ReaderAnswers) (feeds : List (List model.Identity)) (next h : ℕ) (q : Stream) (o : Option AttributeSet) → held_by h q.machine.live ≡ o → stream_after answers feeds next (Unbind h) q ≡ unbind_by o h q
-unbind-is answers feeds next h q o e = ap (λ p. unbind_by p h q) e
-
 -- ======== all streams that an instrument feeds ========
 module _ (n h : ℕ) (p : Piped) (lawful : IsLawful p) (sync : FeedsSynchronous n (part_of p)) (held : IsHeldByFed n h (part_of p)) where
   -- a stream that is not fed has no such handle
@@ -144,16 +122,18 @@ module _ (n h : ℕ) (p : Piped) (lawful : IsLawful p) (sync : FeedsSynchronous 
       (λ i k at s t fed.
       let free : is_drained k.stream.demand ≡ false = undrained k.stream.demand (sync (identity_of k) fed) in
       let fit : fits value k.stream.demand ≡ true = typed-fits n value (part_of p) k.stream.demand typed fed in
-      λ j. (cond (not (sym free j) && sym fit j) (with_update (held_by h k.stream.machine.live) (amount_of value) k) k).stream)
-      (λ i k at s fed. update-is p.answers (map (named_identities p.streams) p.feeds) next h (number_of value) k.stream None (unfed-free i k at s fed))
+      λ j. (cond (not (sym free j) && sym fit j) (with_event (Event.RecordBound h (amount_of value)) k) k).stream)
+      (λ i k at s fed.
+      let q : Stream = k.stream in
+      ap (λ o. record q { machine = through o (sample_of (aggregate_of q.demand) (amount_of value)) q.machine; recorded = if_held o (wrap (q.recorded + size (aggregate_of q.demand) (amount_of value))) q.recorded }) (unfed-free i k at s fed))
 
   -- the end of handles
   unbind-sent : (next : ℕ) → part_changed_by (contents_after (change.Unbind h)) n p ≡ part_after_call next (Unbind h) (part_of p)
   unbind-sent next = each-sent p lawful next n (Unbind h) (contents_after (change.Unbind h)) (changes (change.Unbind h))
       (λ i k at s t fed.
       let free : is_drained k.stream.demand ≡ false = undrained k.stream.demand (sync (identity_of k) fed) in
-      λ j. (cond (sym free j) k (without_handle h k)).stream)
-      (λ i k at s fed. unbind-is p.answers (map (named_identities p.streams) p.feeds) next h k.stream None (unfed-free i k at s fed))
+      λ j. (cond (sym free j) k (with_event (Event.Unbind h) k)).stream)
+      (λ i k at s fed. ap (λ o. record k.stream { machine = let_go o h k.stream.machine }) (unfed-free i k at s fed))
 
 -- ======== changes ========
 -- a change is the call that it makes

@@ -6,10 +6,10 @@ use Rattle.otel_common.specs.declared.attributes.KeyValue.{KeyValue}
 use Rattle.otel_data.specs.declared.collections.Metric.{Metric}
 use Rattle.otel_data.specs.declared.numbers.NumberValue.{NumberValue}
 use Rattle.otel_model_stream.specs.Sets.{AttributeSet, none_set}
-use Rattle.otel_model_stream.specs.Folds.{Amount, empty_of, sample_of, wrap}
-use Rattle.otel_model_stream.specs.Entries.{Table, Point, entry_for, place, recorded_at}
-use Rattle.otel_model_stream.specs.Events.{Kind, held_by}
-use Rattle.otel_model_stream.specs.Machine.{points, machine_after_collection, bind_handle, through, let_go}
+use Rattle.otel_model_stream.specs.Folds.{Amount, empty_of, wrap}
+use Rattle.otel_model_stream.specs.Entries.{Table, Point, entry_for, place}
+use Rattle.otel_model_stream.specs.Events.{Event, Kind, held_by}
+use Rattle.otel_model_stream.specs.Machine.{points, machine_after_collection, step}
 use Rattle.otel_model_stream.specs.Observed.{difference}
 use Rattle.otel_model_stream.specs.Totals.{size, points_total}
 use Rattle.otel_aggregate.specs.Any.{is_signed_value, amount_of}
@@ -17,7 +17,7 @@ use Rattle.otel_aggregate.specs.Streams.{AggregateState, AggregateContents}
 use Rattle.otel_model.specs.Calls.{is_observable}
 use Rattle.otel_model.specs.Demands.{Aggregation, Drop, Default, Sum, LastValue, ExplicitBucketHistogram, Demand, is_valid}
 use Rattle.otel_model.specs.Collections.{aggregated_metrics, has_points}
-use Rattle.otel_model.specs.Machine.{if_held, new_stream}
+use Rattle.otel_model.specs.Machine.{new_stream, recorded_with}
 use Rattle.otel_model.specs.Sent.{set_for}
 use Rattle.otel_model.specs.State.{Stream}
 use Rattle.otel_model.specs.Streams.{aggregate_of, is_drained, is_monotonic_kind}
@@ -95,24 +95,19 @@ used_for s h = entry_for s (place h.stream.demand.limit (empty_of (aggregate_of 
 abbrev pub with_counted : Amount → StreamContents → StreamContents
 with_counted v h = record h { stream = record h.stream { recorded = wrap (h.stream.recorded + size (aggregate_of h.stream.demand) v) } }
 
--- after a record of the set; nothing is prepared any more
-abbrev pub with_record : AttributeSet → Amount → StreamContents → StreamContents
-with_record s v h = record {
-  stream = record {
-    demand = h.stream.demand;
-    machine = record {
-      table = recorded_at s (sample_of (aggregate_of h.stream.demand) v) (place h.stream.demand.limit (empty_of (aggregate_of h.stream.demand)) s h.stream.machine.table);
-      live = h.stream.machine.live;
-    };
-    start = h.stream.start;
-    reported = h.stream.reported;
-    recorded = wrap (h.stream.recorded + size (aggregate_of h.stream.demand) v);
-    exported = h.stream.exported;
+-- after an event other than a collection; nothing is prepared any more
+abbrev pub with_event : Event → StreamContents → StreamContents
+with_event e h = record h {
+  stream = record h.stream {
+    machine = step (aggregate_of h.stream.demand) Kind.Cumulative h.stream.demand.limit h.stream.machine e;
+    recorded = recorded_with (aggregate_of h.stream.demand) h.stream.machine h.stream.recorded e;
   };
-  resets = h.resets;
   pending = None;
-  room = h.room;
 }
+
+-- after a record of the set
+abbrev pub with_record : AttributeSet → Amount → StreamContents → StreamContents
+with_record s v h = with_event (Event.Record s v) h
 
 -- the same, if there is a set
 abbrev pub committed_by : Option AttributeSet → Amount → StreamContents → StreamContents
@@ -128,58 +123,10 @@ abbrev pub without_pending : StreamContents → StreamContents
 without_pending h = record { stream = h.stream; resets = h.resets; pending = None; room = false }
 
 -- ======== handles ========
--- after a bind of the set as this handle; it uses the room
-abbrev pub with_bind : ℕ → AttributeSet → StreamContents → StreamContents
-with_bind h s k = record {
-  stream = record {
-    demand = k.stream.demand;
-    machine = bind_handle h s (record { table = place k.stream.demand.limit (empty_of (aggregate_of k.stream.demand)) s k.stream.machine.table; live = k.stream.machine.live });
-    start = k.stream.start;
-    reported = k.stream.reported;
-    recorded = k.stream.recorded;
-    exported = k.stream.exported;
-  };
-  resets = k.resets;
-  pending = None;
-  room = false;
-}
-
--- the same, if there is a set
+-- after a bind of the set as this handle, if there is a set; it uses the room
 abbrev pub bound_by : Option AttributeSet → ℕ → StreamContents → StreamContents
 bound_by None h k = k
-bound_by (Some s) h k = with_bind h s k
-
--- after a record through a handle of this set's entry, if there is a set; what was prepared is given up
-abbrev pub with_update : Option AttributeSet → Amount → StreamContents → StreamContents
-with_update o v k = record {
-  stream = record {
-    demand = k.stream.demand;
-    machine = through o (sample_of (aggregate_of k.stream.demand) v) k.stream.machine;
-    start = k.stream.start;
-    reported = k.stream.reported;
-    recorded = if_held o (wrap (k.stream.recorded + size (aggregate_of k.stream.demand) v)) k.stream.recorded;
-    exported = k.stream.exported;
-  };
-  resets = k.resets;
-  pending = None;
-  room = k.room;
-}
-
--- after the end of the handle with this number, if it is live; what was prepared is given up
-abbrev pub without_handle : ℕ → StreamContents → StreamContents
-without_handle h k = record {
-  stream = record {
-    demand = k.stream.demand;
-    machine = let_go (held_by h k.stream.machine.live) h k.stream.machine;
-    start = k.stream.start;
-    reported = k.stream.reported;
-    recorded = k.stream.recorded;
-    exported = k.stream.exported;
-  };
-  resets = k.resets;
-  pending = None;
-  room = k.room;
-}
+bound_by (Some s) h k = record (with_event (Event.Bind h s) k) { room = false }
 
 -- ======== changes ========
 -- whether the stream has the number type of a value
@@ -191,9 +138,9 @@ takes value k = beq (is_signed_value value) k.stream.demand.identity.signed
 abbrev pub contents_after : Change → StreamContents → StreamContents
 contents_after (change.Prepared value) k = cond (takes value k) (committed_by k.pending (amount_of value) k) k
 contents_after (change.Empty value) k = cond (takes value k) (with_record none_set (amount_of value) k) k
-contents_after (change.Held h place value) k = cond (not (is_drained k.stream.demand) && takes value k) (with_update (held_by h k.stream.machine.live) (amount_of value) k) k
+contents_after (change.Held h place value) k = cond (not (is_drained k.stream.demand) && takes value k) (with_event (Event.RecordBound h (amount_of value)) k) k
 contents_after (change.Bind h) k = cond (not (is_observable k.stream.demand.identity.kind) && (k.room && is_none (held_by h k.stream.machine.live))) (bound_by k.pending h k) k
-contents_after (change.Unbind h) k = cond (is_drained k.stream.demand) k (without_handle h k)
+contents_after (change.Unbind h) k = cond (is_drained k.stream.demand) k (with_event (Event.Unbind h) k)
 
 -- ======== collections ========
 -- how collections cut the stream's history into windows
