@@ -14,6 +14,7 @@ use std::marker::Model;
 ///
 /// A handle that ends leaves its place empty. Empty places are cleared away once they are more than half of those that
 /// there is memory for, so the end of a handle takes constant time, amortized.
+#[derive(Drop)]
 pub struct Links {
     /// The number of each handle's entry, or `None` if the handle has ended.
     places: IndexMap<u64, Option<usize>, SetHashBuilder>,
@@ -30,16 +31,6 @@ impl Model for Links {
     ghost view = { λ l. record { entries = live_links l.places.entries; unused = index.spare l.places } };
 
     ghost invariant = { λ l. ArePlaces l.places.entries l.ended };
-}
-
-impl Drop for Links {
-    /// A function of its own, so that no proof about who lets one go looks into it.
-    fn drop(self) {
-        let Links {
-            places: _places,
-            ended: _,
-        } = self;
-    }
 }
 
 impl Links {

@@ -54,6 +54,7 @@ mod table;
 ///
 /// Entries have numbers, by which handles name them. An entry keeps its number; the number of an entry that is gone is
 /// used again.
+#[derive(Drop)]
 pub struct ValueMap<A: Aggregator> {
     alloc: Global,
     config: A::InitConfig,
@@ -89,22 +90,6 @@ impl<A: Aggregator> Model for ValueMap<A> {
         × IfSome m.unused (λ made. A.meaning made ≡ A.empty m.config)
         × IfSome m.spare_key (λ key. key ≡ over_set)
         × IsSound m.table (nat_lt m.count m.limit) (is_some m.unused && (is_some m.spare_key && m.table.room)) m.pending };
-}
-
-impl<A: Aggregator> Drop for ValueMap<A> {
-    /// A function of its own, so that no proof about who lets one go looks into it.
-    fn drop(self) {
-        let ValueMap {
-            alloc: _,
-            config: _config,
-            limit: _,
-            count: _,
-            table: _table,
-            unused: _unused,
-            spare_key: _spare_key,
-            pending: _pending,
-        } = self;
-    }
 }
 
 impl<A: Aggregator> ValueMap<A> {

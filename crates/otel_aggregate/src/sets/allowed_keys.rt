@@ -17,20 +17,11 @@ use std::marker::Model;
 const FEW_KEYS: usize = 8;
 
 /// The keys of an allow-list, as they were given. One is found without going over a long list.
+#[derive(Drop)]
 pub struct AllowedKeys {
     keys: Items<Key>,
     /// The keys in byte order, if there are more than a few.
     sorted: Option<Vec<Key>>,
-}
-
-impl Drop for AllowedKeys {
-    /// A function of its own, so that no proof about who lets one go looks into it.
-    fn drop(self) {
-        let AllowedKeys {
-            keys: _keys,
-            sorted: _sorted,
-        } = self;
-    }
 }
 
 impl Model for AllowedKeys {

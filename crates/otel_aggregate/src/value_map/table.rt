@@ -34,6 +34,7 @@ use std::marker::Model;
 
 /// The entries of a map. Each entry is in a slot and keeps the slot's number as long as it exists; a freed slot is
 /// used again.
+#[derive(Drop)]
 pub struct Table<A: Aggregator> {
     slots: Slab<Slot<A>>,
     /// The slot of the empty set, which has no key.
@@ -53,17 +54,6 @@ impl<A: Aggregator> Model for Table<A> {
     ghost view = { λ t. slotted (look_in A.meaning t.slots) t.none t.keys.sets t.keys.aliases (nat_le (slab_len t.slots + 1) t.slots.capacity && t.keys.room) };
 
     ghost invariant = { λ t. IsConsistent (look_in A.meaning t.slots) t.none t.keys.sets t.keys.aliases };
-}
-
-impl<A: Aggregator> Drop for Table<A> {
-    /// A function of its own, so that no proof about who lets one go looks into it.
-    fn drop(self) {
-        let Table {
-            slots: _slots,
-            none: _,
-            keys: _keys,
-        } = self;
-    }
 }
 
 /// How many points the sets have: all, or those that were updated.
