@@ -101,7 +101,7 @@ impl<T: Number + Drop> PrecomputedSum<T> {
         ensures err { OnErr result (self.new ≡ self.old) }
         ensures only_memory { IsOkUnless result Fault.OutOfMemory }
     {
-        let given = self.stream.observed_data(alloc, now)?;
+        let given = self.stream.sum_data(alloc, now)?;
         self.stream.finish(now);
         Ok(given)
     }

@@ -39,16 +39,3 @@ plain-filter f (e ∷ es) = by (f e.1) (plain-filter f es)
         → map plain (cond c (e ∷ filter (λ (e : HashedKey × ℕ). f e.1) es) (filter (λ (e : HashedKey × ℕ). f e.1) es)) ≡ cond c (plain e ∷ filter (λ e. f e.1) (map plain es)) (filter (λ e. f e.1) (map plain es))
     by true h = ap (λ l. plain e ∷ l) h
     by false h = h
-
-module _ {X : Type 0} (P : X → Type 0) where
-  pub all-filter : (f : X → Bool) (xs : List X) → AllByRecursion P xs → AllByRecursion P (filter f xs)
-  all-filter f [] h = tt
-  all-filter f (x ∷ xs) h = by (f x) (all-filter f xs h.1)
-    where
-      by : (c : Bool) → AllByRecursion P (filter f xs) → AllByRecursion P (cond c (x ∷ filter f xs) (filter f xs))
-      by true left = (h.0, left)
-      by false left = left
-
-  pub all-push : (xs : List X) (x : X) → AllByRecursion P xs → P x → AllByRecursion P (xs ++ x ∷ [])
-  all-push [] x h p = (p, tt)
-  all-push (y ∷ xs) x h p = (h.0, all-push xs x h.1 p)

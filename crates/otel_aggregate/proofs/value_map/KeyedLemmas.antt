@@ -21,6 +21,7 @@ use Rattle.otel_model_stream.specs.Folds.{Fold}
 use Rattle.otel_aggregate.specs.declared.value_map.slots.Slot.{Slot}
 use Rattle.otel_aggregate.specs.value_map.Slots.{Kept, Look, Keyed, kept_of, look_in, entry_of, entry_at, table_at, HasForm}
 use Rattle.otel_aggregate.specs.value_map.Keyed.{Fits, Links, IsConsistent, found, first_of, is_lasting, is_counted}
+use Rattle.otel_aggregate.proofs.All.{all-found}
 use Rattle.otel_aggregate.specs.value_map.Numbers.{named_in, set_named, AreNamed, AreNumbered, IsNumberOf}
 
 pub same_set : (s t : AttributeSet) → set_eq s t ≡ true → s ≡ t
@@ -67,38 +68,19 @@ lookup-away s (x ∷ es) m n e h = by (set_eq s x.0) e (λ r. lookup-away s es m
     by true r ih = let k : x.1 ≡ n = cc in subst (λ j. nat_eq m j ≡ false) k h.0
     by false r ih = ih r
 
--- a key that is found fits
-pub lookup-fits : (look : Look) (s : AttributeSet) (es : List Keyed) (n : ℕ) → lookup (set_eq s) es ≡ Some n → AllByRecursion (Fits look) es → Fits look (s, n)
-lookup-fits look s [] n e h = absurd (cc)
-lookup-fits look s (x ∷ es) n e h = by (set_eq s x.0) refl e (λ r. lookup-fits look s es n r h.1)
-  where
-    by : (b : Bool) → set_eq s x.0 ≡ b → cond b (Some x.1) (lookup (set_eq s) es) ≡ Some n → (lookup (set_eq s) es ≡ Some n → Fits look (s, n)) → Fits look (s, n)
-    by true q r ih =
-        let k : x.1 ≡ n = cc in
-        let t : x.0 ≡ s = sym (same_set s x.0 q) in
-        subst (Fits look) (λ i. (t i, k i)) h.0
-    by false q r ih = ih r
-
-pub lookup-links : (es : List Keyed) (s : AttributeSet) (gs : List Keyed) (n : ℕ) → lookup (set_eq s) gs ≡ Some n → AllByRecursion (Links es) gs → Links es (s, n)
-lookup-links es s [] n e h = absurd (cc)
-lookup-links es s (x ∷ gs) n e h = by (set_eq s x.0) refl e (λ r. lookup-links es s gs n r h.1)
-  where
-    by : (b : Bool) → set_eq s x.0 ≡ b → cond b (Some x.1) (lookup (set_eq s) gs) ≡ Some n → (lookup (set_eq s) gs ≡ Some n → Links es (s, n)) → Links es (s, n)
-    by true q r ih =
-        let k : x.1 ≡ n = cc in
-        let t : x.0 ≡ s = sym (same_set s x.0 q) in
-        subst (Links es) (λ i. (t i, k i)) h.0
-    by false q r ih = ih r
+-- what holds of each key holds of one that is found
+lookup-all : (P : Keyed → Type 0) (s : AttributeSet) (es : List Keyed) (n : ℕ) → lookup (set_eq s) es ≡ Some n → AllByRecursion P es → P (s, n)
+lookup-all P s es n e h = let found = all-found P (set_eq s) es n e h in subst (λ t. P (t, n)) (sym (same_set s found.0 found.1)) found.2
 
 -- what is found under a list stands under its canonical form
 pub found-canon : (look : Look) (none : ℕ) (es gs : List Keyed) (l : List KeyValue) (n : ℕ) → IsConsistent look none es gs → found l es gs ≡ Some n → lookup (set_eq (canon l)) es ≡ Some n
 found-canon look none es gs l n laws e = by (lookup (set_eq l) es) refl e
   where
     by : (o : Option ℕ) → lookup (set_eq l) es ≡ o → first_of o (lookup (set_eq l) gs) ≡ Some n → lookup (set_eq (canon l)) es ≡ Some n
-    by None q r = lookup-links es l gs n r laws.linked
+    by None q r = lookup-all (Links es) l gs n r laws.linked
     by (Some m) q r =
         let k : lookup (set_eq l) es ≡ Some n = cc in
-        subst (λ t. lookup (set_eq t) es ≡ Some n) (sym (lookup-fits look l es n k laws.fits).canonical) k
+        subst (λ t. lookup (set_eq t) es ≡ Some n) (sym (lookup-all (Fits look) l es n k laws.fits).canonical) k
 
 pub some_first : (a b : Option ℕ) → is_some (first_of a b) ≡ (is_some a || is_some b)
 some_first None b = refl
@@ -140,7 +122,7 @@ number-found look none es gs s n laws e =
     let apart : nat_eq none n ≡ false = lookup-away s es none n e (IsDistinct-head nat_eq none (values_of es) laws.apart) in
     let away : nat_eq n none ≡ false = grind (arith, nat_tests) in
     record {
-      some = (lookup-fits look s es n e laws.fits).some;
+      some = (lookup-all (Fits look) s es n e laws.fits).some;
       number = e;
       named = ap (λ b. cond b none_set (named_in n es)) away ∙ named_in-lookup s es n e (IsDistinct-tail nat_eq none (values_of es) laws.apart);
     }

@@ -2,7 +2,7 @@
 use Rattle.std.proofs.Common.{ℕ, ◌-◌, ◌^◌, ◌<◌, ◌≡◌, List, [], ◌∷◌, ◌++◌, nat_lt, Bool, true, false, cond, not, ◌||◌, Option, Some, None, append-nil, refl, ap, arith, subst, sym, ◌∙◌}
 use Rattle.std.specs.Map.{lookup, keys_of}
 use Rattle.std.specs.Option.{IfSome}
-use Rattle.std.proofs.lemmas.Bool.{or_parts}
+use Rattle.std.proofs.lemmas.Bool.{or_left, or_right, or_parts}
 use Rattle.std.proofs.lemmas.List.Folds.{list_any-append}
 use Rattle.otel_common.specs.Canonical.{canon}
 use Rattle.otel_common.specs.Equality.{set_eq}
@@ -27,11 +27,7 @@ pub record Placing (limit : ℕ) (empty : Fold) (s : AttributeSet) (entries afte
   pub goal : entry_for s after ≡ used
 
 has-last : (s : AttributeSet) (entries : List Entry) (e : Entry) → set_eq e.set s ≡ true → has s (entries ++ e ∷ []) ≡ true
-has-last s entries e q = list_any-append (is_of s) entries (e ∷ []) ∙ ap (λ b. has s entries || (b || false)) q ∙ or-true (has s entries)
-  where
-    or-true : (b : Bool) → (b || true) ≡ true
-    or-true true = refl
-    or-true false = refl
+has-last s entries e q = list_any-append (is_of s) entries (e ∷ []) ∙ or_right (has s entries) _ (or_left _ false q)
 
 module _ (limit : ℕ) (empty : Fold) (s : AttributeSet) (entries : List Entry) where
   -- the set has an entry, or is empty

@@ -3,6 +3,7 @@ use Rattle.std.proofs.Common.{◌≡◌, Bool, true, false, cond, not, ◌||◌,
 use Rattle.std.specs.Map.{lookup, keys_of}
 use Rattle.std.specs.Option.{IfSome}
 use Rattle.std.specs.Set.{is_member}
+use Rattle.std.proofs.lemmas.Bool.{and_right, or_parts}
 use Rattle.std.proofs.lemmas.Map.Made.{is_some-lookup}
 use Rattle.otel_common.specs.Canonical.{canon}
 use Rattle.otel_common.specs.Equality.{set_eq}
@@ -19,20 +20,19 @@ use Rattle.otel_aggregate.specs.declared.value_map.pending.Pending.TheVariants.{
 use Rattle.otel_aggregate.proofs.value_map.CanonicalSets.{canon-nil, some-canon}
 use Rattle.otel_aggregate.proofs.value_map.KeyedLemmas.{same_set, same_number}
 
+-- past the limit no list is added
+unadmitted : (t : Slotted) (l : List KeyValue) → cond ((not (set_eq (canon l) none_set) && (not (has (canon l) t.table.entries) && false)) && not (set_eq (canon l) l)) (l ∷ []) [] ≡ []
+unadmitted t l = ap (λ b. cond (b && not (set_eq (canon l) l)) (l ∷ []) []) (and_right _ _ (and_right _ false refl))
+
 -- the overflow entry, where that is used for sets without entries
 plan-over : (t : Slotted) (few : Bool) (l : List KeyValue) (n : ℕ) → IsOverflow few t.table.entries t.numbers n → has (canon l) t.table.entries ≡ false → IsPlanFor t few l (target_of (Some n) l t.table.entries) (At n)
 plan-over t few l n over away =
     let at : target_of (Some n) l t.table.entries ≡ over_set = ap (λ b. cond (not b) over_set (canon l)) away in
     record {
       pending = ap Some (over.2.named ∙ sym at);
-      spelling = sym (ap (λ b. cond ((not (set_eq (canon l) none_set) && (not (has (canon l) t.table.entries) && b)) && not (set_eq (canon l) l)) (l ∷ []) []) over.0 ∙ none (not (set_eq (canon l) none_set)) (not (has (canon l) t.table.entries)));
+      spelling = sym (ap (λ b. cond ((not (set_eq (canon l) none_set) && (not (has (canon l) t.table.entries) && b)) && not (set_eq (canon l) l)) (l ∷ []) []) over.0 ∙ unadmitted t l);
       sound = λ room ready. (ap (λ s. number_of s t.numbers) over.2.named ∙ over.2.number, ap (λ s. is_placed s t.table.entries) over.2.named ∙ over.1);
     }
-  where
-    none : (a b : Bool) → cond ((a && (b && false)) && not (set_eq (canon l) l)) (l ∷ []) [] ≡ []
-    none true true = refl
-    none true false = refl
-    none false b = refl
 
 pub plan-past_over : (t : Slotted) (few : Bool) (l : List KeyValue) (over : Option ℕ) (n : ℕ) → over ≡ Some n → IfSome over (IsOverflow few t.table.entries t.numbers) → has (canon l) t.table.entries ≡ false → IsPlanFor t few l (target_of over l t.table.entries) (At n)
 plan-past_over t few l over n is h away =
@@ -57,10 +57,7 @@ plan-empty t few l e =
 
 -- none of the three
 or-none : (a b c : Bool) → (a || (b || c)) ≡ false → (a ≡ false) × (b ≡ false) × (c ≡ false)
-or-none true b c e = absurd (true≢false e)
-or-none false true c e = absurd (true≢false e)
-or-none false false true e = absurd (true≢false e)
-or-none false false false e = (refl, refl, refl)
+or-none a b c e = let some = or_parts a (b || c) e in let others = or_parts b c some.1 in (some.0, others.0, others.1)
 
 lacking : (o : Option ℕ) → is_some o ≡ false → o ≡ None
 lacking None e = refl
@@ -97,27 +94,16 @@ module _ (t : Slotted) (l : List KeyValue) (unled : leads l t ≡ false) (absent
   pub plan-own : (few : Bool) (set : AttributeSet) → set ≡ canon l → set_eq (canon l) l ≡ true → IsPlan t few l (New set None)
   plan-own few set is own = record {
     pending = ap Some is;
-    spelling = sym (ap (λ b. cond ((not (set_eq (canon l) none_set) && (not (has (canon l) t.table.entries) && few)) && not b) (l ∷ []) []) own ∙ ap (λ b. cond b (l ∷ []) []) (none (not (set_eq (canon l) none_set) && (not (has (canon l) t.table.entries) && few))));
+    spelling = sym (ap (λ b. cond ((not (set_eq (canon l) none_set) && (not (has (canon l) t.table.entries) && few)) && not b) (l ∷ []) []) own ∙ ap (λ b. cond b (l ∷ []) []) (and_right _ false refl));
     sound = λ room ready. subst (λ s. IsReady t few room s None) (sym is) (record { new = new; absent = away; spelling = tt; admitted = λ h. absurd (true≢false (sym h)); ready = ready });
   }
-    where
-      none : (b : Bool) → (b && false) ≡ false
-      none true = refl
-      none false = refl
-
   -- past the limit
   pub plan-past : (set : AttributeSet) → set ≡ canon l → IsPlan t false l (New set None)
   plan-past set is = record {
     pending = ap Some is;
-    spelling = sym (ap (λ b. cond (b && not (set_eq (canon l) l)) (l ∷ []) []) (none_few (not (set_eq (canon l) none_set)) (not (has (canon l) t.table.entries))));
+    spelling = sym (unadmitted t l);
     sound = λ room ready. subst (λ s. IsReady t false room s None) (sym is) (record { new = new; absent = away; spelling = tt; admitted = λ h. absurd (true≢false (sym h)); ready = ready });
   }
-    where
-      none_few : (a b : Bool) → (a && (b && false)) ≡ false
-      none_few true true = refl
-      none_few true false = refl
-      none_few false b = refl
-
   spelled : (b : Bool) → set_eq (canon l) l ≡ b → (o : Option (List KeyValue)) → o ≡ cond b None (Some l) → IsSpelling t.aliases (canon l) o
   spelled true q o e = subst (IsSpelling t.aliases (canon l)) (sym e) tt
   spelled false q o e = subst (IsSpelling t.aliases (canon l)) (sym e) (refl, unaliased)

@@ -136,7 +136,7 @@ impl<'a> HashedSet<'a> {
         ensures hashed { IsHashedBy hasher result }
         ensures key { result.key ≡ self.now.key }
     {
-        let hash = if hasher.is_same(&self.hasher) {
+        let hash = if hasher == self.hasher {
             self.hash
         } else if self.references.is_empty() {
             hash_list(hasher, self.list)
@@ -230,7 +230,7 @@ impl OwnedSet {
             hash,
             set,
         } = self;
-        if hasher.is_same(&own) {
+        if hasher == own {
             return HashedKey { hash, key: set };
         }
         let hash = hash_list(hasher, set.as_slice());
@@ -318,16 +318,8 @@ impl<'a> GivenAttributes<'a> {
 #[derive(Drop)]
 pub(crate) struct HashedKey {
     hash: u64,
-    key: SharedItems<KeyValue>,
-}
-
-impl HashedKey {
     /// The set or list.
-    pub fn key(&self) -> &SharedItems<KeyValue>
-        ensures { result.now ≡ self.now.key }
-    {
-        &self.key
-    }
+    pub(crate) key: SharedItems<KeyValue>,
 }
 
 impl PartialEq for HashedKey {

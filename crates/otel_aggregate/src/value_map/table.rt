@@ -108,7 +108,7 @@ fn add_points<A: Aggregator, M: PointMaker<A>>(
         if let Some(slot) = slots.get(*number) {
             let is_shown = every || slot.updated;
             if is_shown {
-                let set = set.key().share()?;
+                let set = set.key.share()?;
                 points.push(maker.point(alloc, set, &slot.aggregator)?)?;
             }
         }
@@ -137,16 +137,6 @@ fn total_of<A: Aggregator>(slots: &Slab<Slot<A>>, keys: &KeyTable, every: bool) 
     total
 }
 
-/// Whether the limit counts the slot with this number.
-fn is_counted<A: Aggregator>(slots: &Slab<Slot<A>>, number: usize) -> bool
-    ensures { (s : AttributeSet) → result ≡ (entry_at (look_in A.meaning slots.now) (s, number)).counted }
-{
-    match slots.get(number) {
-        None => false,
-        Some(slot) => slot.counted,
-    }
-}
-
 /// How many of the sets the limit counts.
 #[tactic(auto, using(crate::proofs::value_map::TableLemmas::counted_cons, crate::proofs::value_map::TableLemmas::counted_few))]
 fn count_counted<A: Aggregator>(slots: &Slab<Slot<A>>, keys: &KeyTable) -> usize
@@ -154,7 +144,7 @@ fn count_counted<A: Aggregator>(slots: &Slab<Slot<A>>, keys: &KeyTable) -> usize
 {
     let mut count = 0;
     for (_, number) in keys.sets() {
-        if is_counted(slots, *number) {
+        if slots.get(*number).is_some_and(|slot| slot.counted) {
             count += 1;
         }
     }
@@ -201,7 +191,7 @@ fn form_in(keys: &KeyTable, allow: Option<&AllowedKeys>, list: &[KeyValue]) -> O
     ensures { result ≡ lookup (set_eq (canon (allowed_part (option_copied allow.entry) list.now))) keys.now.sets }
 {
     for (set, number) in keys.sets() {
-        if is_form_of(set.key().as_slice(), allow, list) {
+        if is_form_of(set.key.as_slice(), allow, list) {
             return Some(*number);
         }
     }
@@ -462,7 +452,7 @@ fn copy_entries<A: Aggregator>(
         if let Some(slot) = slots.get(*number) {
             made.make_room()?;
             let slot = copy_slot(alloc, slot)?;
-            let set = OwnedSet::new(keys.hasher, set.key().share()?);
+            let set = OwnedSet::new(keys.hasher, set.key.share()?);
             made.add(set, None, slot);
         }
     }

@@ -4,7 +4,8 @@ use Rattle.otel_common.specs.Equality.{set_eq}
 use Rattle.otel_model_stream.specs.Sets.{AttributeSet}
 use Rattle.otel_aggregate.specs.value_map.Hashed.{Led, plain}
 use Rattle.otel_aggregate.specs.value_map.Keyed.{IsSpelling}
-use Rattle.otel_aggregate.proofs.value_map.HashedLemmas.{lookup-hashed, all-push}
+use Rattle.otel_aggregate.proofs.All.{all-append}
+use Rattle.otel_aggregate.proofs.value_map.HashedLemmas.{lookup-hashed}
 use Rattle.otel_aggregate.proofs.value_map.key_table.KeyTable.add.Goals as goal
 
 pub add_key-requires-clause-absent : goal.add_key-requires-clause-absent
@@ -26,7 +27,7 @@ add_key-requires-in-Some-clause-absent c =
 
 pub invariant_of-self : goal.invariant_of-self
 invariant_of-self c =
-    rw (c.add_key.ensures.keys, c.add_key-in-Some.ensures.keys) (all-push _ _ _ c.self.invariant.0 c.into_key.ensures.hashed, all-push _ _ _ c.self.invariant.1 c.into_key-in-Some.ensures.hashed)
+    rw (c.add_key.ensures.keys, c.add_key-in-Some.ensures.keys) (all-append _ _ _ c.self.invariant.0 (c.into_key.ensures.hashed, tt), all-append _ _ _ c.self.invariant.1 (c.into_key-in-Some.ensures.hashed, tt))
 
 pub invariant_of-self-in_default : goal.invariant_of-self-in_default
-invariant_of-self-in_default c = rw c.add_key.ensures.keys (all-push _ _ _ c.self.invariant.0 c.into_key.ensures.hashed, c.self.invariant.1)
+invariant_of-self-in_default c = rw c.add_key.ensures.keys (all-append _ _ _ c.self.invariant.0 (c.into_key.ensures.hashed, tt), c.self.invariant.1)

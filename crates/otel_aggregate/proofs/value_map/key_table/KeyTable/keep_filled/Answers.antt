@@ -1,7 +1,8 @@
 use Rattle.std.proofs.Common.{◌∙◌, ap, map, is_some}
 use Rattle.otel_aggregate.specs.value_map.Hashed.{plain}
 use Rattle.otel_aggregate.specs.value_map.Slots.{look_in}
-use Rattle.otel_aggregate.proofs.value_map.HashedLemmas.{all-filter, plain-filter}
+use Rattle.otel_aggregate.proofs.All.{all-filter}
+use Rattle.otel_aggregate.proofs.value_map.HashedLemmas.{plain-filter}
 use Rattle.otel_aggregate.proofs.value_map.key_table.KeyTable.keep_filled.Goals as goal
 
 pub invariant_of-self : goal.invariant_of-self
