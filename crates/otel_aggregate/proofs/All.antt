@@ -1,5 +1,5 @@
 -- What holds of each element of a list.
-use Rattle.std.proofs.Common.{◌≡◌, Bool, true, false, cond, List, [], ◌∷◌, ◌++◌, Some, map, filter, subst, refl}
+use Rattle.std.proofs.Common.{◌≡◌, Bool, true, false, cond, List, [], ◌∷◌, ◌++◌, Some, map, filter, ap, subst, refl}
 use Rattle.std.specs.List.{AllByRecursion, IsDistinct}
 use Rattle.std.specs.Map.{lookup}
 
@@ -54,3 +54,12 @@ all-found P test (x ∷ es) v e h = by (test x.0) refl e (λ r. all-found P test
     by : (b : Bool) → test x.0 ≡ b → cond b (Some x.1) (lookup test es) ≡ Some v → (lookup test es ≡ Some v → (k : _) × (test k ≡ true) × P (k, v)) → (k : _) × (test k ≡ true) × P (k, v)
     by true q r ih = let k : x.1 ≡ v = cc in (x.0, q, subst (λ u. P (x.0, u)) k h.0)
     by false q r ih = ih r
+
+-- what passes, of what the elements have
+pub filter-map : {X Y : Type 0} (f : X → Y) (test : Y → Bool) (xs : List X) → filter test (map f xs) ≡ map f (filter (λ x. test (f x)) xs)
+filter-map f test [] = refl
+filter-map f test (x ∷ xs) =
+    elim (test (f x)) as (λ b. cond b (f x ∷ filter test (map f xs)) (filter test (map f xs)) ≡ map f (cond b (x ∷ filter (λ x. test (f x)) xs) (filter (λ x. test (f x)) xs))) [
+      | true ↦ ap (λ ys. f x ∷ ys) (filter-map f test xs)
+      | false ↦ filter-map f test xs
+    ]

@@ -175,8 +175,3 @@ showable-points s k every t h =
     (all-append (KeepsOf s k) (filter (λ (e : Entry). e.updated) (t.none ∷ [])) (filter (λ (e : Entry). every || e.updated) t.entries)
     (all-filter (KeepsOf s k) (λ (e : Entry). e.updated) (t.none ∷ []) (h.0, tt))
     (all-filter (KeepsOf s k) (λ (e : Entry). every || e.updated) t.entries h.1))
-
--- what contracts see of points that they see as they are
-pub seen-whole : {X E : Type 0} (r : Result (List X) E) (all : List X) → IfOk r (λ given. map (λ (x : X). x) given ≡ all) → IfOk r (λ given. given ≡ all)
-seen-whole (Ok given) all is = sym (map-id given) ∙ is
-seen-whole (Err e) all is = tt

@@ -102,14 +102,16 @@ pub fn add(links: &mut Links, handle: u64, number: usize) -> usize
     place
 }
 
-/// Takes a handle out and keeps the others in order. Takes constant time, amortized.
+/// Takes a handle out and keeps the others in order. Clears the empty places away if there are too many. Takes constant
+/// time, amortized.
 pub fn take_out(links: &mut Links, handle: u64)
     ensures links { links.new.entries ≡ shift_remove_entry (nat_eq handle) links.old.entries }
     ensures room { spare links.old ≤ spare links.new }
 {
     end(links, handle);
     if links.ended > links.places.capacity() / 2 {
-        clear_ended(links);
+        links.places.retain(|_handle, place| place.is_some());
+        links.ended = 0;
     }
 }
 
@@ -125,13 +127,4 @@ fn end(links: &mut Links, handle: u64)
     };
     let was_live = place.take().is_some();
     links.ended += was_live as usize;
-}
-
-/// Clears the empty places away, and keeps the others in order.
-fn clear_ended(links: &mut Links)
-    ensures links { links.new.entries ≡ links.old.entries }
-    ensures room { spare links.old ≤ spare links.new }
-{
-    links.places.retain(|_handle, place| place.is_some());
-    links.ended = 0;
 }

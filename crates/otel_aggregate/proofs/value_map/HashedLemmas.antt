@@ -1,5 +1,5 @@
 -- Keys with hashes, looked up as their sets.
-use Rattle.std.proofs.Common.{ℕ, ◌≡◌, ◌==◌, Bool, true, false, cond, ◌&&◌, List, [], ◌∷◌, ◌++◌, map, filter, Some, refl, sym, ap, ◌∙◌}
+use Rattle.std.proofs.Common.{ℕ, ◌≡◌, ◌==◌, Bool, true, false, cond, ◌&&◌, List, [], ◌∷◌, ◌++◌, map, Some, refl, sym, ap, ◌∙◌}
 use Rattle.std.specs.Cmp.{unsigned_Decides}
 use Rattle.std.specs.List.{AllByRecursion}
 use Rattle.std.specs.Map.{lookup}
@@ -29,13 +29,3 @@ module _ (b : SetHashBuilder) (q : HashedKey) (hq : IsHashedBy b q) where
   lookup-hashed (e ∷ es) h =
       ap (λ c. cond c (Some e.1) (lookup (hashed_eq q) es)) (eq-hashed b q e.0 hq h.0)
       ∙ ap (λ o. cond (set_eq q.key e.0.key) (Some e.1) o) (lookup-hashed es h.1)
-
--- keys that are left by their numbers
-pub plain-filter : (f : ℕ → Bool) (es : List (HashedKey × ℕ)) → map plain (filter (λ (e : HashedKey × ℕ). f e.1) es) ≡ filter (λ e. f e.1) (map plain es)
-plain-filter f [] = refl
-plain-filter f (e ∷ es) = by (f e.1) (plain-filter f es)
-  where
-    by : (c : Bool) → map plain (filter (λ (e : HashedKey × ℕ). f e.1) es) ≡ filter (λ e. f e.1) (map plain es)
-        → map plain (cond c (e ∷ filter (λ (e : HashedKey × ℕ). f e.1) es) (filter (λ (e : HashedKey × ℕ). f e.1) es)) ≡ cond c (plain e ∷ filter (λ e. f e.1) (map plain es)) (filter (λ e. f e.1) (map plain es))
-    by true h = ap (λ l. plain e ∷ l) h
-    by false h = h

@@ -6,6 +6,8 @@ use Rattle.std.specs.Set.{is_member}
 use Rattle.std.specs.Option.{IfNone, IfSome}
 use Rattle.std.proofs.lemmas.Map.Keys.{IsDistinct-head, IsDistinct-tail}
 use Rattle.std.proofs.lemmas.List.{length-map}
+use Rattle.std.proofs.lemmas.List.Elements.{All-from_recursion}
+use Rattle.std.proofs.lemmas.Map.Views.{IfSome-lookup_from_All}
 use Rattle.std.proofs.lemmas.Map.Made.{is_some-lookup, length-le_from_is_member}
 use Rattle.std.specs.Cmp.{IsEquivalence}
 use Rattle.std.specs.Cmp.Lexicographic.{lists_equiv}
@@ -61,12 +63,9 @@ has-lookup s look (e ∷ es) = ap (λ t. set_eq t s || has s (map (entry_at look
 
 -- a number that is found is none from which all differ
 pub lookup-away : (s : AttributeSet) (es : List Keyed) (m n : ℕ) → lookup (set_eq s) es ≡ Some n → AllByRecursion (λ y. nat_eq m y ≡ false) (values_of es) → nat_eq m n ≡ false
-lookup-away s [] m n e h = absurd (cc)
-lookup-away s (x ∷ es) m n e h = by (set_eq s x.0) e (λ r. lookup-away s es m n r h.1)
-  where
-    by : (b : Bool) → cond b (Some x.1) (lookup (set_eq s) es) ≡ Some n → (lookup (set_eq s) es ≡ Some n → nat_eq m n ≡ false) → nat_eq m n ≡ false
-    by true r ih = let k : x.1 ≡ n = cc in subst (λ j. nat_eq m j ≡ false) k h.0
-    by false r ih = ih r
+lookup-away s es m n e h =
+    let apart : ℕ → Type 0 = λ y. nat_eq m y ≡ false in
+    subst (λ (o : Option ℕ). IfSome o apart) e (IfSome-lookup_from_All apart (set_eq s) es (All-from_recursion apart (values_of es) h))
 
 -- what holds of each key holds of one that is found
 lookup-all : (P : Keyed → Type 0) (s : AttributeSet) (es : List Keyed) (n : ℕ) → lookup (set_eq s) es ≡ Some n → AllByRecursion P es → P (s, n)

@@ -28,32 +28,25 @@ module _ (f : Kept → Kept) (g : Entry → Entry) (as_entry : (s : AttributeSet
       by None q = absurd (true≢false (sym q))
       by (Some k) q = as_entry s k
 
-  fit-touched : (m : ℕ) → (is_some (other m) ≡ is_some (look m)) × (is_lasting (other m) ≡ is_lasting (look m))
-  fit-touched m = (ap is_some (w m) ∙ (by (nat_eq n m) (look m)).0, ap is_lasting (w m) ∙ (by (nat_eq n m) (look m)).1)
+  -- what the change keeps
+  same-touched : {X : Type 0} (p : Option Kept → X) → ((k : Kept) → p (Some (f k)) ≡ p (Some k)) → (m : ℕ) → p (other m) ≡ p (look m)
+  same-touched p same m = ap p (w m) ∙ by (nat_eq n m) (look m)
     where
-      by : (b : Bool) (o : Option Kept) → (is_some (cond b (option_map f o) o) ≡ is_some o) × (is_lasting (cond b (option_map f o) o) ≡ is_lasting o)
-      by true None = (refl, refl)
-      by true (Some k) = (refl, lasts k)
-      by false o = (refl, refl)
-
-  count-touched : (m : ℕ) → is_counted (other m) ≡ is_counted (look m)
-  count-touched m = ap is_counted (w m) ∙ by (nat_eq n m) (look m)
-    where
-      by : (b : Bool) (o : Option Kept) → is_counted (cond b (option_map f o) o) ≡ is_counted o
+      by : (b : Bool) (o : Option Kept) → p (cond b (option_map f o) o) ≡ p o
       by true None = refl
-      by true (Some k) = counts k
+      by true (Some k) = same k
       by false o = refl
 
   pub kept-touched : (none : ℕ) (es gs : List Keyed) → IsConsistent look none es gs → IsConsistent other none es gs
   kept-touched none es gs laws = record {
-    none_filled = (fit-touched none).0 ∙ laws.none_filled;
-    none_lasts = (fit-touched none).1 ∙ laws.none_lasts;
-    none_uncounted = count-touched none ∙ laws.none_uncounted;
+    none_filled = same-touched is_some (λ k. refl) none ∙ laws.none_filled;
+    none_lasts = same-touched is_lasting lasts none ∙ laws.none_lasts;
+    none_uncounted = same-touched is_counted counts none ∙ laws.none_uncounted;
     apart = laws.apart;
     unique = laws.unique;
     linked = laws.linked;
     single = laws.single;
-    fits = all-each (Fits look) (Fits other) (λ x h. fits-as look other x (fit-touched x.1).0 (fit-touched x.1).1 h) es laws.fits;
+    fits = all-each (Fits look) (Fits other) (λ x h. fits-as look other x (same-touched is_some (λ k. refl) x.1) (same-touched is_lasting lasts x.1) h) es laws.fits;
   }
 
   -- where no key is of the set, a change at it changes nothing
@@ -126,10 +119,5 @@ module _ (f : Kept → Kept) (g : Entry → Entry) (as_entry : (s : AttributeSet
   counted-touched [] = refl
   counted-touched (x ∷ es) =
       counted_cons (entry_at other x) (map (entry_at other) es)
-      ∙ (λ i. cond ((ap (λ o. (entry_of x.0 o).counted) (w x.1) ∙ by (nat_eq n x.1) (look x.1)) i) 1 0 + counted-touched es i)
+      ∙ (λ i. cond (same-touched (λ o. (entry_of x.0 o).counted) counts x.1 i) 1 0 + counted-touched es i)
       ∙ sym (counted_cons (entry_at look x) (map (entry_at look) es))
-    where
-      by : (b : Bool) (o : Option Kept) → (entry_of x.0 (cond b (option_map f o) o)).counted ≡ (entry_of x.0 o).counted
-      by true None = refl
-      by true (Some k) = counts k
-      by false o = refl

@@ -45,16 +45,6 @@ fn from_wide_if_some<T: Number + Drop>(value: Option<i128>) -> Option<T>
     }
 }
 
-/// The 64 bits of the value that was reported for a set, or 0 if it had no point.
-fn bits_in(reported: &ValueMap<AnyAggregator>, attributes: &[KeyValue]) -> u64
-    ensures { result ≡ value_before (draining_points reported.now.state) attributes.now }
-{
-    match reported.get(attributes) {
-        None => 0,
-        Some(last) => last.bits(),
-    }
-}
-
 /// Makes the points of sums, each less its set's value in `reported` if that is given.
 #[derive(Drop)]
 struct SumPoints<'a, T: Number + Drop> {
@@ -74,6 +64,7 @@ impl<'a, T: Number + Drop> PointMaker<AnyAggregator> for SumPoints<'a, T> {
     ghost can_show = { λ _ _. Unit {0} };
 
     #[inline(always)]
+    #[tactic(auto, using(crate::proofs::ObservedLemmas::value_before_none, crate::proofs::ObservedLemmas::value_before_some))]
     fn point(
         &self,
         alloc: Global,
@@ -82,7 +73,10 @@ impl<'a, T: Number + Drop> PointMaker<AnyAggregator> for SumPoints<'a, T> {
     ) -> Result<SumDataPoint<T>, Fault> {
         let bits = match self.reported {
             None => kept.bits(),
-            Some(reported) => kept.bits().subtract(bits_in(reported, set.as_slice())),
+            Some(reported) => {
+                let before = reported.get(set.as_slice()).map_or(0, |last| last.bits());
+                kept.bits().subtract(before)
+            }
         };
         Ok(SumDataPoint::new(set, Items::from(Vec::new(alloc)), T::from_bits(bits)))
     }

@@ -57,13 +57,6 @@ fn greater_of<T: Number>(greatest: Option<T>, value: T) -> T
     }
 }
 
-/// The sum after one more value, if it is kept.
-fn sum_with<T: Number>(is_kept: bool, sum: T, value: T) -> T
-    ensures { T.bits result ≡ cond is_kept (wrap (T.bits sum + T.bits value)) (T.bits sum) }
-{
-    if is_kept { sum.add(value) } else { sum }
-}
-
 /// Counts one more record in a bucket, if there is such a bucket.
 fn count_in(counts: &mut [u64], bucket: usize)
     ensures { counts.new ≡ counted_in counts.old bucket }
@@ -110,7 +103,9 @@ impl<T: Number + Drop> Aggregator for Buckets<T> {
     fn update(&mut self, value: (T, usize)) {
         let (value, bucket) = value;
         self.count = self.count.wrapping_add(1);
-        self.sum = sum_with(self.has_sum, self.sum, value);
+        if self.has_sum {
+            self.sum = self.sum.add(value);
+        }
         if self.has_min_max {
             self.least = Some(lesser_of(self.least, value));
             self.greatest = Some(greater_of(self.greatest, value));

@@ -35,16 +35,6 @@ impl Model for AllowedKeys {
     ghost invariant = { λ a. IfSome a.sorted (λ sorted. HasKeysOf a.keys sorted.items) };
 }
 
-/// Copies of the keys, in byte order.
-fn sorted_keys(alloc: Global, keys: &[Key]) -> Result<Vec<Key>, Fault>
-    ensures keys { IfOk result (λ sorted. HasKeysOf keys.now sorted.items) }
-    ensures only_memory { IsOkUnless result Fault.OutOfMemory }
-{
-    let mut sorted = Vec::from_clones(alloc, keys)?;
-    sorted.sort_unstable();
-    Ok(sorted)
-}
-
 impl AllowedKeys {
     /// Makes an allow-list of these keys. More than a few are copied and sorted. Refused only for want of memory.
     pub fn new(alloc: Global, keys: Items<Key>) -> Result<AllowedKeys, Fault>
@@ -54,7 +44,8 @@ impl AllowedKeys {
         if keys.as_slice().len() <= FEW_KEYS {
             return Ok(AllowedKeys { keys, sorted: None });
         }
-        let sorted = sorted_keys(alloc, keys.as_slice())?;
+        let mut sorted = Vec::from_clones(alloc, keys.as_slice())?;
+        sorted.sort_unstable();
         Ok(AllowedKeys {
             keys,
             sorted: Some(sorted),
