@@ -56,16 +56,6 @@ impl<A: Aggregator> Model for Table<A> {
     ghost invariant = { λ t. IsConsistent (look_in A.meaning t.slots) t.none t.keys.sets t.keys.aliases };
 }
 
-/// How many points the sets have: all, or those that were updated.
-fn count_shown<A: Aggregator>(slots: &Slab<Slot<A>>, keys: &KeyTable, every: bool) -> usize {
-    let sets = keys.sets();
-    if every {
-        return sets.len();
-    }
-    sets.filter(|(_, number)| slots.get(**number).is_some_and(|slot| slot.updated))
-        .count()
-}
-
 /// The point of the empty set, whose slot has this number, if that slot was updated, in a list with room for this many
 /// more points.
 fn first_points<A: Aggregator, M: PointMaker<A>>(
@@ -161,14 +151,6 @@ fn shown_in<A: Aggregator>(slots: &Slab<Slot<A>>, number: usize) -> Option<&A>
     } else {
         None
     }
-}
-
-/// The aggregator in the slot with this number.
-fn aggregator_in<A: Aggregator>(slots: &Slab<Slot<A>>, number: usize) -> Option<&A>
-    ensures { option_map (λ found. A.meaning found.now) result ≡ option_map (λ kept. kept.fold) (look_in A.meaning slots.now number) }
-{
-    let slot = slots.get(number)?;
-    Some(&slot.aggregator)
 }
 
 /// A copy of a slot.
@@ -390,7 +372,13 @@ impl<A: Aggregator> Table<A> {
         ensures points { IfOk result (λ given. map M.seen given.items ≡ map (M.shown maker.now) (points every self.now.table)) }
         ensures only_memory { IsOkUnless result Fault.OutOfMemory }
     {
-        let more = count_shown(&self.slots, &self.keys, every);
+        let sets = self.keys.sets();
+        let more = if every {
+            sets.len()
+        } else {
+            sets.filter(|(_, number)| self.slots.get(**number).is_some_and(|slot| slot.updated))
+                .count()
+        };
         let mut points = first_points(alloc, maker, &self.slots, self.none, more)?;
         add_points(alloc, maker, &self.slots, &self.keys, every, &mut points)?;
         Ok(points)
@@ -419,7 +407,7 @@ impl<A: Aggregator> Table<A> {
             return shown_in(&self.slots, self.none);
         }
         let number = self.find_set(set)?;
-        aggregator_in(&self.slots, number)
+        self.slots.get(number).map(|slot| &slot.aggregator)
     }
 
     /// A copy of the entries, which shares their sets. It doesn't know lists that admitted a set in another form.
