@@ -2,6 +2,7 @@
 use Rattle.std.proofs.Common.{◌≡◌, Bool, true, false, cond, List, [], ◌∷◌, ◌++◌, Some, map, filter, ap, subst, refl}
 use Rattle.std.specs.List.{AllByRecursion, IsDistinct}
 use Rattle.std.specs.Map.{lookup}
+use Rattle.std.proofs.lemmas.Bool.{cond_both}
 
 -- also if it is changed or follows from what holds
 pub all-map : {X Y : Type 0} (P : X → Type 0) (Q : Y → Type 0) (f : X → Y) → ((x : X) → P x → Q (f x)) → (xs : List X) → AllByRecursion P xs → AllByRecursion Q (map f xs)
@@ -19,11 +20,9 @@ all-append P (x ∷ xs) ys h k = (h.0, all-append P xs ys h.1 k)
 -- of those that pass a test, where it follows from what holds and from passing
 pub all-passing : {X : Type 0} (P Q : X → Type 0) (test : X → Bool) → ((x : X) → test x ≡ true → P x → Q x) → (xs : List X) → AllByRecursion P xs → AllByRecursion Q (filter test xs)
 all-passing P Q test one [] h = tt
-all-passing P Q test one (x ∷ xs) h = by (test x) refl (all-passing P Q test one xs h.1)
-  where
-    by : (b : Bool) → test x ≡ b → AllByRecursion Q (filter test xs) → AllByRecursion Q (cond b (x ∷ filter test xs) (filter test xs))
-    by true q r = (one x q h.0, r)
-    by false q r = r
+all-passing P Q test one (x ∷ xs) h =
+    let rest = all-passing P Q test one xs h.1 in
+    cond_both (test x) (x ∷ filter test xs) (filter test xs) (AllByRecursion Q) (λ q. (one x q h.0, rest)) (λ q. rest)
 
 pub all-filter : {X : Type 0} (P : X → Type 0) (test : X → Bool) (xs : List X) → AllByRecursion P xs → AllByRecursion P (filter test xs)
 all-filter P test xs h = all-passing P P test (λ x q p. p) xs h
@@ -31,20 +30,16 @@ all-filter P test xs h = all-passing P P test (λ x q p. p) xs h
 -- of what the elements have, without some of them
 pub all-left : {X Y : Type 0} (P : Y → Type 0) (f : X → Y) (test : X → Bool) (xs : List X) → AllByRecursion P (map f xs) → AllByRecursion P (map f (filter test xs))
 all-left P f test [] h = tt
-all-left P f test (x ∷ xs) h = by (test x) (all-left P f test xs h.1)
-  where
-    by : (b : Bool) → AllByRecursion P (map f (filter test xs)) → AllByRecursion P (map f (cond b (x ∷ filter test xs) (filter test xs)))
-    by true r = (h.0, r)
-    by false r = r
+all-left P f test (x ∷ xs) h =
+    let rest = all-left P f test xs h.1 in
+    cond_both (test x) (x ∷ filter test xs) (filter test xs) (λ l. AllByRecursion P (map f l)) (λ q. (h.0, rest)) (λ q. rest)
 
 pub distinct-left : {X Y : Type 0} (eq : Y → Y → Bool) (f : X → Y) (test : X → Bool) (xs : List X) → IsDistinct eq (map f xs) → IsDistinct eq (map f (filter test xs))
 unfolding IsDistinct
 distinct-left eq f test [] h = tt
-distinct-left eq f test (x ∷ xs) h = by (test x) (distinct-left eq f test xs h.1)
-  where
-    by : (b : Bool) → IsDistinct eq (map f (filter test xs)) → IsDistinct eq (map f (cond b (x ∷ filter test xs) (filter test xs)))
-    by true r = (all-left (λ y. eq (f x) y ≡ false) f test xs h.0, r)
-    by false r = r
+distinct-left eq f test (x ∷ xs) h =
+    let rest = distinct-left eq f test xs h.1 in
+    cond_both (test x) (x ∷ filter test xs) (filter test xs) (λ l. IsDistinct eq (map f l)) (λ q. (all-left (λ y. eq (f x) y ≡ false) f test xs h.0, rest)) (λ q. rest)
 
 -- of the entry that is found
 pub all-found : {K X : Type 0} (P : K × X → Type 0) (test : K → Bool) (es : List (K × X)) (v : X) → lookup test es ≡ Some v → AllByRecursion P es → (k : K) × (test k ≡ true) × P (k, v)

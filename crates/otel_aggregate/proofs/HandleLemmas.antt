@@ -4,7 +4,7 @@ use Rattle.std.specs.Prelude.{◌==◌}
 use Rattle.std.specs.List.{AllByRecursion}
 use Rattle.std.proofs.lemmas.List.Folds.{list_any-append}
 use Rattle.std.proofs.lemmas.List.Sums.{count_by-le-length, sum_by_push, sum_by-cons}
-use Rattle.std.proofs.lemmas.Bool.{or_left, or_right}
+use Rattle.std.proofs.lemmas.Bool.{cond_both, or_left, or_right}
 use Rattle.std.proofs.lemmas.Bool.Decides.{nat_tests}
 use Rattle.otel_common.specs.Equality.{set_eq}
 use Rattle.otel_model_stream.specs.Sets.{AttributeSet, none_set, over_set}
@@ -54,11 +54,8 @@ counted-none x es (p ∷ hs) away h = counted-cons x p hs ∙ by (set_eq p.1 x) 
 -- ======== few ========
 few-counted : (x : AttributeSet) (hs : Handles) (es : List Entry) → AllByRecursion (IsCounted hs) es → handles_in x es ≤ length hs
 few-counted x hs [] h = omega arith
-few-counted x hs (e ∷ es) h = by (is_of x e) (few-counted x hs es h.1)
-  where
-    by : (b : Bool) → handles_in x es ≤ length hs → cond b e.handles (handles_in x es) ≤ length hs
-    by true ih = omega (arith, h.0, count_by-le-length (λ (p : ℕ × AttributeSet). set_eq p.1 e.set) hs)
-    by false ih = ih
+few-counted x hs (e ∷ es) h =
+    cond_both (is_of x e) e.handles (handles_in x es) (λ n. n ≤ length hs) (λ q. omega (arith, h.0, count_by-le-length (λ (p : ℕ × AttributeSet). set_eq p.1 e.set) hs)) (λ q. few-counted x hs es h.1)
 
 pub held-few : (t : Table) (hs : Handles) → AreHeld t hs → length hs < 2 ^ 63 → (x : AttributeSet) → handles_at x t < 2 ^ 64 - 1
 held-few t hs held few x = omega (arith, few-counted x hs (t.none ∷ t.entries) (held.none, held.entries))
@@ -67,11 +64,9 @@ held-few t hs held few x = omega (arith, few-counted x hs (t.none ∷ t.entries)
 -- what keeps the set
 pub has-on : (f : Entry → Entry) → ((e : Entry) → (f e).set ≡ e.set) → (g s : AttributeSet) (es : List Entry) → has s (map (on g f) es) ≡ has s es
 has-on f same g s [] = refl
-has-on f same g s (e ∷ es) = λ i. by (is_of g e) i || has-on f same g s es i
-  where
-    by : (b : Bool) → is_of s (cond b (f e) e) ≡ is_of s e
-    by true = ap (λ (x : AttributeSet). set_eq x s) (same e)
-    by false = refl
+has-on f same g s (e ∷ es) =
+    let one = cond_both (is_of g e) (f e) e (λ x. is_of s x ≡ is_of s e) (λ q. ap (λ (x : AttributeSet). set_eq x s) (same e)) (λ q. refl) in
+    λ i. one i || has-on f same g s es i
 
 placed-on : (f : Entry → Entry) → ((e : Entry) → (f e).set ≡ e.set) → (g : AttributeSet) (es : List Entry) (hs : Handles) → AllByRecursion (IsPlacedIn es) hs → AllByRecursion (IsPlacedIn (map (on g f) es)) hs
 placed-on f same g es hs h = all-each (IsPlacedIn es) (IsPlacedIn (map (on g f) es)) (λ p q. ap (λ b. set_eq p.1 none_set || b) (has-on f same g p.1 es) ∙ q) hs h
@@ -85,11 +80,7 @@ held-written t hs g v held = record {
 }
   where
     one : (e : Entry) → IsCounted hs e → IsCounted hs (on g (write v) e)
-    one e c = by (is_of g e)
-      where
-        by : (b : Bool) → IsCounted hs (cond b (write v e) e)
-        by true = c
-        by false = c
+    one e c = cond_both (is_of g e) (write v e) e (IsCounted hs) (λ q. c) (λ q. c)
 
 -- a handle more
 pub held-taken : (t : Table) (hs : Handles) (h : ℕ) (g : AttributeSet) → is_placed g t.entries ≡ true → AreHeld t hs → AreHeld (at_entry g take_handle t) (hs ++ (h, g) ∷ [])
@@ -124,11 +115,7 @@ held-dropped t hs h g e held = record {
 
     drop : (ps : Handles) → AllByRecursion (IsPlacedIn t.entries) ps → AllByRecursion (IsPlacedIn t.entries) (without h ps)
     drop [] a = tt
-    drop (p ∷ ps) a = by (p.0 == h) (drop ps a.1)
-      where
-        by : (b : Bool) → AllByRecursion (IsPlacedIn t.entries) (without h ps) → AllByRecursion (IsPlacedIn t.entries) (cond b ps (p ∷ without h ps))
-        by true r = a.1
-        by false r = (a.0, r)
+    drop (p ∷ ps) a = cond_both (p.0 == h) ps (p ∷ without h ps) (AllByRecursion (IsPlacedIn t.entries)) (λ q. a.1) (λ q. (a.0, drop ps a.1))
 
 -- ======== a place ========
 placed-push : (es : List Entry) (e : Entry) (hs : Handles) → AllByRecursion (IsPlacedIn es) hs → AllByRecursion (IsPlacedIn (es ++ e ∷ [])) hs

@@ -3,7 +3,7 @@ use Rattle.std.proofs.Common.{◌≡◌, ◌∙◌, refl, ap, sym, subst, ℕ, B
 use Rattle.std.specs.Prelude.{Box}
 use Rattle.std.specs.declared.alloc.Global.{Global}
 use Rattle.std.specs.Prelude.{ℤ, ◌||◌, nat_lt, OnOk, OnErr, IfOk, IsSome}
-use Rattle.std.proofs.lemmas.List.{map-id}
+use Rattle.std.proofs.lemmas.Bool.{cond_both}
 use Rattle.std.specs.List.{AllByRecursion}
 use Rattle.otel_common.specs.Canonical.{canon}
 use Rattle.otel_common.specs.Equality.{set_eq}
@@ -23,26 +23,18 @@ use Rattle.otel_aggregate.proofs.All.{all-map, all-append, all-filter}
 use Rattle.otel_aggregate.proofs.ObservedLemmas.{drained-measured, drained-exchanged}
 
 -- ======== folds ========
-within-either : (s : Bool) (x y : ℤ) (b : Bool) → IsWithin s x → IsWithin s y → IsWithin s (cond b x y)
-within-either s x y true p q = p
-within-either s x y false p q = q
-
 within-lesser : (s : Bool) (o : Option ℤ) (z : ℤ) → IsWithin s z → IsWithinIfSome s o → IsWithinIfSome s (lesser o z)
 within-lesser s None z w h = w
-within-lesser s (Some y) z w h = within-either s z y _ w h
+within-lesser s (Some y) z w h = cond_both _ z y (IsWithin s) (λ q. w) (λ q. h)
 
 within-greater : (s : Bool) (o : Option ℤ) (z : ℤ) → IsWithin s z → IsWithinIfSome s o → IsWithinIfSome s (greater o z)
 within-greater s None z w h = w
-within-greater s (Some y) z w h = within-either s y z _ h w
-
-within-if : (s : Bool) (x y : Option ℤ) (b : Bool) → IsWithinIfSome s x → IsWithinIfSome s y → IsWithinIfSome s (cond b x y)
-within-if s x y true p q = p
-within-if s x y false p q = q
+within-greater s (Some y) z w h = cond_both _ y z (IsWithin s) (λ q. h) (λ q. w)
 
 kept-recorded : (s : Bool) (k : Form) (f : Fold) (v : Sample) → IsWithin s v.wide → IsKept s k f → IsKept s k (record_fold f v)
 kept-recorded s k (Total n) v w h = h
 kept-recorded s k (Last n) v w h = h
-kept-recorded s k (Spreads x) v w h = (h.0, (within-if s _ _ x.has_min_max (within-lesser s x.least v.wide w h.1.0) h.1.0, within-if s _ _ x.has_min_max (within-greater s x.greatest v.wide w h.1.1) h.1.1))
+kept-recorded s k (Spreads x) v w h = (h.0, (cond_both x.has_min_max _ _ (IsWithinIfSome s) (λ q. within-lesser s x.least v.wide w h.1.0) (λ q. h.1.0), cond_both x.has_min_max _ _ (IsWithinIfSome s) (λ q. within-greater s x.greatest v.wide w h.1.1) (λ q. h.1.1)))
 
 kept-cleared : (s : Bool) (k : Form) (f : Fold) → IsKept s k f → IsKept s k (clear_fold f)
 kept-cleared s k (Total n) h = h
@@ -56,23 +48,15 @@ KeepsOf s k e = IsKept s k e.fold
 abbrev All : Bool → Form → List Entry → Type 0
 All s k es = AllByRecursion (KeepsOf s k) es
 
-all-if : (s : Bool) (k : Form) (b : Bool) (xs ys : List Entry) → All s k xs → All s k ys → All s k (cond b xs ys)
-all-if s k true xs ys p q = p
-all-if s k false xs ys p q = q
-
 all-placed : (s : Bool) (k : Form) (limit : ℕ) (empty : Fold) (set : AttributeSet) (es : List Entry) → IsKept s k empty → All s k es → All s k (entries_with_place limit empty set es)
 all-placed s k limit empty set es none all =
-    all-if s k (set_eq set none_set) _ _ all
-    (all-if s k (has set es) _ _ all
-    (all-if s k (nat_lt (number_counted es) limit) _ _ (all-append (KeepsOf s k) es (new_entry empty set true ∷ []) all (none, tt))
-    (all-if s k (has over_set es) _ _ all (all-append (KeepsOf s k) es (new_entry empty over_set false ∷ []) all (none, tt)))))
+    cond_both (set_eq set none_set) _ _ (All s k) (λ q. all) (λ q.
+    cond_both (has set es) _ _ (All s k) (λ q. all) (λ q.
+    cond_both (nat_lt (number_counted es) limit) _ _ (All s k) (λ q. all-append (KeepsOf s k) es (new_entry empty set true ∷ []) all (none, tt)) (λ q.
+    cond_both (has over_set es) _ _ (All s k) (λ q. all) (λ q. all-append (KeepsOf s k) es (new_entry empty over_set false ∷ []) all (none, tt)))))
 
 kept-on : (s : Bool) (k : Form) (g : AttributeSet) (h : Entry → Entry) → ((e : Entry) → IsKept s k e.fold → IsKept s k (h e).fold) → (e : Entry) → IsKept s k e.fold → IsKept s k (on g h e).fold
-kept-on s k g h one e kept = by (is_of g e)
-  where
-    by : (b : Bool) → IsKept s k (cond b (h e) e).fold
-    by true = one e kept
-    by false = kept
+kept-on s k g h one e kept = cond_both (is_of g e) (h e) e (KeepsOf s k) (λ q. one e kept) (λ q. kept)
 
 kept-written : (s : Bool) (k : Form) (g : AttributeSet) (v : Sample) → IsWithin s v.wide → (t : Table) (es : List Entry) → IsKept s k t.none.fold → All s k es → AreKept s k (record { none = on g (write v) t.none; entries = map (on g (write v)) es })
 kept-written s k g v w t es none all =

@@ -4,6 +4,7 @@ use Rattle.std.specs.Prelude.{◌==◌}
 use Rattle.std.specs.List.{AllByRecursion}
 use Rattle.std.specs.Map.{lookup, remove_entry}
 use Rattle.std.specs.Option.{option_map}
+use Rattle.std.proofs.lemmas.Bool.{cond_both}
 use Rattle.std.proofs.lemmas.Bool.Decides.{nat_tests}
 use Rattle.otel_model_stream.specs.Sets.{AttributeSet}
 use Rattle.otel_model_stream.specs.Entries.{Entry}
@@ -53,11 +54,7 @@ found-linked ns h n ps l e = (all-found (IsLinked ns) (nat_eq h) ps n e l).2
 -- ======== a handle more, and one less ========
 pub linked-without : (ns : Numbers) (h : ℕ) (ps : List Link) → AllByRecursion (IsLinked ns) ps → AllByRecursion (IsLinked ns) (remove_entry (nat_eq h) ps)
 linked-without ns h [] l = tt
-linked-without ns h (p ∷ ps) l = by (nat_eq h p.0) (linked-without ns h ps l.1)
-  where
-    by : (b : Bool) → AllByRecursion (IsLinked ns) (remove_entry (nat_eq h) ps) → AllByRecursion (IsLinked ns) (cond b ps (p ∷ remove_entry (nat_eq h) ps))
-    by true r = l.1
-    by false r = (l.0, r)
+linked-without ns h (p ∷ ps) l = cond_both (nat_eq h p.0) ps (p ∷ remove_entry (nat_eq h) ps) (AllByRecursion (IsLinked ns)) (λ q. l.1) (λ q. (l.0, linked-without ns h ps l.1))
 
 pub handles-without : (ns : Numbers) (h : ℕ) (ps : List Link) → handles_of ns (remove_entry (nat_eq h) ps) ≡ without h (handles_of ns ps)
 handles-without ns h [] = refl

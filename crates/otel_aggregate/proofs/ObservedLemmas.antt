@@ -1,6 +1,7 @@
 -- What draining leaves, and what a stream of observed sums shows.
 use Rattle.std.proofs.Common.{ℕ, ◌≡◌, ◌∙◌, List, [], ◌∷◌, map, Bool, true, false, cond, Option, Some, None, length, refl, ap, sym}
 use Rattle.std.specs.Prelude.{ℤ}
+use Rattle.std.proofs.lemmas.Bool.{cond_both}
 use Rattle.otel_common.specs.Equality.{set_eq}
 use Rattle.otel_common.specs.declared.metrics.Temporality.{Temporality}
 use Rattle.otel_data.specs.declared.points.SumDataPoint.{SumDataPoint}
@@ -20,11 +21,7 @@ use Rattle.otel_aggregate.specs.Observed.{ObservedState, values_now, since_repor
 
 -- ======== draining ========
 reset-on : (g : AttributeSet) (v : Sample) (e : Entry) → reset (on g (write v) e) ≡ reset e
-reset-on g v e = by (is_of g e)
-  where
-    by : (b : Bool) → reset (cond b (write v e) e) ≡ reset e
-    by true = ap (λ f. record e { updated = false; fold = f }) (cleared-recorded e.fold v)
-    by false = refl
+reset-on g v e = cond_both (is_of g e) (write v e) e (λ x. reset x ≡ reset e) (λ q. ap (λ f. record e { updated = false; fold = f }) (cleared-recorded e.fold v)) (λ q. refl)
 
 -- a map is drained to the same with a record more
 pub drained-measured : (s : AttributeSet) (v : Sample) (m : MapState) → drained_map (measured_map s v m) ≡ drained_map m

@@ -21,6 +21,7 @@ use Rattle.otel_aggregate.specs.Observed.{drained_at}
 use Rattle.otel_aggregate.specs.Streams.{AggregateContents, recorded_set, recorded_attributes, taken_from, stream_after_commit, bind_of, stream_after_bind, update_at, stream_after_update, unbind_at, stream_after_unbind}
 use Rattle.otel_aggregate.proofs.All.{all-append}
 use Rattle.otel_aggregate.proofs.LinkLemmas.{IsLinkedStill, still-kept, handles-still, linked-still, held-linked}
+use Rattle.otel_aggregate.proofs.value_map.TableLemmas.{is_some-map}
 use Rattle.otel_aggregate.proofs.HandleLemmas.{has-on, held-written, held-taken, held-placed}
 
 -- a record of the set that is prepared
@@ -102,11 +103,7 @@ held-found ns h ps o e = held-linked ns h ps ∙ ap (option_map (λ n. set_named
 
 -- whether it is live
 pub held-some : (ns : Numbers) (h : ℕ) (ps : List Link) (o : Option ℕ) → o ≡ lookup (nat_eq h) ps → is_some (held_by h (handles_of ns ps)) ≡ is_some o
-held-some ns h ps o e = ap is_some (held-found ns h ps o e) ∙ by o
-  where
-    by : (o : Option ℕ) → is_some (option_map (λ n. set_named n ns) o) ≡ is_some o
-    by None = refl
-    by (Some n) = refl
+held-some ns h ps o e = ap is_some (held-found ns h ps o e) ∙ is_some-map (λ n. set_named n ns) o
 
 pub held-none : (ns : Numbers) (h : ℕ) (ps : List Link) (o : Option ℕ) → o ≡ lookup (nat_eq h) ps → is_some o ≡ false → held_by h (handles_of ns ps) ≡ None
 held-none ns h ps None e n = held-found ns h ps None e

@@ -57,6 +57,7 @@ impl Links {
 /// The number of a handle's entry, or `None` if the handle isn't live. It is out of line, as records find most handles at
 /// their places.
 #[inline(never)]
+#[tactic(auto, using(crate::proofs::PlaceLemmas::number_live))]
 pub fn number_in(links: &Links, handle: u64) -> Option<usize>
     ensures { result ≡ lookup (nat_eq handle) links.now.entries }
 {

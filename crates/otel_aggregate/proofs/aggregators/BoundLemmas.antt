@@ -44,13 +44,13 @@ point-counts p (x ∷ xs) (suc i) l h =
     more ∙ ap (λ t. cond t 1 0 + count_by p xs) (sym one) ∙ sym (sum_by-cons (λ y. cond (p y) 1 0) x xs)
 
 -- ======== one more in a bucket ========
-pub counted-set : (ns : List ℕ) (i : ℕ) → i < length ns → slice_set ns i (wrap (slice_index_or ns i 0 + 1)) ≡ counted_in ns i
-counted-set [] i l = refl
-counted-set (n ∷ ns) zero l = refl
-counted-set (n ∷ ns) (suc i) l = ap (λ ms. n ∷ ms) (counted-set ns i (omega arith))
+pub counted_set : (ns : List ℕ) (i : ℕ) → i < length ns → slice_set ns i (wrap (slice_index_or ns i 0 + 1)) ≡ counted_in ns i
+counted_set [] i l = refl
+counted_set (n ∷ ns) zero l = refl
+counted_set (n ∷ ns) (suc i) l = ap (λ ms. n ∷ ms) (counted_set ns i (omega arith))
 
 -- a bucket that isn't there
-pub counted-beyond : (ns : List ℕ) (i : ℕ) → length ns ≤ i → ns ≡ counted_in ns i
-counted-beyond [] i l = refl
-counted-beyond (n ∷ ns) zero l = absurd (omega arith)
-counted-beyond (n ∷ ns) (suc i) l = ap (λ ms. n ∷ ms) (counted-beyond ns i (omega arith))
+pub counted_beyond : (ns : List ℕ) (i : ℕ) → length ns ≤ i → ns ≡ counted_in ns i
+counted_beyond [] i l = refl
+counted_beyond (n ∷ ns) zero l = absurd (omega arith)
+counted_beyond (n ∷ ns) (suc i) l = ap (λ ms. n ∷ ms) (counted_beyond ns i (omega arith))

@@ -24,8 +24,8 @@ eq-hashed b q k hq hk = by (set_eq q.key k.key) refl
 
 module _ (b : SetHashBuilder) (q : HashedKey) (hq : IsHashedBy b q) where
   -- so a key leads where its set does
-  pub lookup-hashed : (es : List (HashedKey × ℕ)) → AllByRecursion (λ (e : HashedKey × ℕ). IsHashedBy b e.0) es → lookup (hashed_eq q) es ≡ lookup (set_eq q.key) (map plain es)
-  lookup-hashed [] h = refl
-  lookup-hashed (e ∷ es) h =
+  pub lookup_hashed : (es : List (HashedKey × ℕ)) → AllByRecursion (λ (e : HashedKey × ℕ). IsHashedBy b e.0) es → lookup (hashed_eq q) es ≡ lookup (set_eq q.key) (map plain es)
+  lookup_hashed [] h = refl
+  lookup_hashed (e ∷ es) h =
       ap (λ c. cond c (Some e.1) (lookup (hashed_eq q) es)) (eq-hashed b q e.0 hq h.0)
-      ∙ ap (λ o. cond (set_eq q.key e.0.key) (Some e.1) o) (lookup-hashed es h.1)
+      ∙ ap (λ o. cond (set_eq q.key e.0.key) (Some e.1) o) (lookup_hashed es h.1)

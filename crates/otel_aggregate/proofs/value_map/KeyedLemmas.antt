@@ -53,9 +53,9 @@ entry-set s None = refl
 entry-set s (Some k) = refl
 
 -- a set has an entry exactly if it is a key
-pub has-lookup : (s : AttributeSet) (look : Look) (es : List Keyed) → has s (map (entry_at look) es) ≡ is_some (lookup (set_eq s) es)
-has-lookup s look [] = refl
-has-lookup s look (e ∷ es) = ap (λ t. set_eq t s || has s (map (entry_at look) es)) (entry-set e.0 (look e.1)) ∙ ap (λ b. b || has s (map (entry_at look) es)) (set_eq-flip e.0 s) ∙ by (set_eq s e.0) (has-lookup s look es)
+pub has_lookup : (s : AttributeSet) (look : Look) (es : List Keyed) → has s (map (entry_at look) es) ≡ is_some (lookup (set_eq s) es)
+has_lookup s look [] = refl
+has_lookup s look (e ∷ es) = ap (λ t. set_eq t s || has s (map (entry_at look) es)) (entry-set e.0 (look e.1)) ∙ ap (λ b. b || has s (map (entry_at look) es)) (set_eq-flip e.0 s) ∙ by (set_eq s e.0) (has_lookup s look es)
   where
     by : (b : Bool) → has s (map (entry_at look) es) ≡ is_some (lookup (set_eq s) es) → (b || has s (map (entry_at look) es)) ≡ is_some (cond b (Some e.1) (lookup (set_eq s) es))
     by true h = refl
@@ -68,7 +68,7 @@ lookup-away s es m n e h =
     subst (λ (o : Option ℕ). IfSome o apart) e (IfSome-lookup_from_All apart (set_eq s) es (All-from_recursion apart (values_of es) h))
 
 -- what holds of each key holds of one that is found
-lookup-all : (P : Keyed → Type 0) (s : AttributeSet) (es : List Keyed) (n : ℕ) → lookup (set_eq s) es ≡ Some n → AllByRecursion P es → P (s, n)
+pub lookup-all : (P : Keyed → Type 0) (s : AttributeSet) (es : List Keyed) (n : ℕ) → lookup (set_eq s) es ≡ Some n → AllByRecursion P es → P (s, n)
 lookup-all P s es n e h = let found = all-found P (set_eq s) es n e h in subst (λ t. P (t, n)) (sym (same_set s found.0 found.1)) found.2
 
 -- what is found under a list stands under its canonical form
@@ -127,8 +127,8 @@ number-found look none es gs s n laws e =
     }
 
 -- a set that has a number is named by it
-pub numbers-name : (look : Look) (none : ℕ) (es gs : List Keyed) → IsConsistent look none es gs → AreNamed (record { none = none; sets = es })
-numbers-name look none es gs laws s n e = by (set_eq s none_set) refl e
+pub numbers_name : (look : Look) (none : ℕ) (es gs : List Keyed) → IsConsistent look none es gs → AreNamed (record { none = none; sets = es })
+numbers_name look none es gs laws s n e = by (set_eq s none_set) refl e
   where
     by : (b : Bool) → set_eq s none_set ≡ b → cond b (Some none) (lookup (set_eq s) es) ≡ Some n → set_named n (record { none = none; sets = es }) ≡ s
     by true q r =
@@ -138,8 +138,8 @@ numbers-name look none es gs laws s n e = by (set_eq s none_set) refl e
     by false q r = (number-found look none es gs s n laws r).named
 
 -- the sets with entries are those with numbers
-pub numbers-placed : (look : Look) (none : ℕ) (es : List Keyed) → AreNumbered (map (entry_at look) es) (record { none = none; sets = es })
-numbers-placed look none es s = by (set_eq s none_set) ∙ ap (λ b. set_eq s none_set || b) (sym (has-lookup s look es))
+pub numbers_placed : (look : Look) (none : ℕ) (es : List Keyed) → AreNumbered (map (entry_at look) es) (record { none = none; sets = es })
+numbers_placed look none es s = by (set_eq s none_set) ∙ ap (λ b. set_eq s none_set || b) (sym (has_lookup s look es))
   where
     by : (b : Bool) → is_some (cond b (Some none) (lookup (set_eq s) es)) ≡ (b || is_some (lookup (set_eq s) es))
     by true = refl
@@ -151,10 +151,10 @@ if_found look none es gs s None laws e = tt
 if_found look none es gs s (Some n) laws e = number-found look none es gs s n laws (sym (e refl))
 
 -- a list that is found is known
-pub found-known : (look : Look) (es gs : List Keyed) (l : List KeyValue) → is_some (found l es gs) ≡ (is_member set_eq (keys_of gs) l || has l (map (entry_at look) es))
-found-known look es gs l =
+pub found_known : (look : Look) (es gs : List Keyed) (l : List KeyValue) → is_some (found l es gs) ≡ (is_member set_eq (keys_of gs) l || has l (map (entry_at look) es))
+found_known look es gs l =
     some_first (lookup (set_eq l) es) (lookup (set_eq l) gs)
-    ∙ (λ i. sym (has-lookup l look es) i || is_some-lookup (set_eq l) gs i)
+    ∙ (λ i. sym (has_lookup l look es) i || is_some-lookup (set_eq l) gs i)
     ∙ or-flip (has l (map (entry_at look) es)) (is_member set_eq (keys_of gs) l)
   where
     or-flip : (a b : Bool) → (a || b) ≡ (b || a)
@@ -164,26 +164,26 @@ found-known look es gs l =
     or-flip false false = refl
 
 -- what a list leads to is the entry of its set
-pub found-placed : (look : Look) (none : ℕ) (es gs : List Keyed) (l : List KeyValue) (o : Option ℕ) → IsConsistent look none es gs → o ≡ found l es gs
+pub found_placed : (look : Look) (none : ℕ) (es gs : List Keyed) (l : List KeyValue) (o : Option ℕ) → IsConsistent look none es gs → o ≡ found l es gs
     → IfSome o (λ _. has (canon l) (map (entry_at look) es) ≡ true) × IfSome o (λ n. IsNumberOf (canon l) n (record { none = none; sets = es }))
-found-placed look none es gs l None laws e = (tt, tt)
-found-placed look none es gs l (Some n) laws e =
+found_placed look none es gs l None laws e = (tt, tt)
+found_placed look none es gs l (Some n) laws e =
     let there : lookup (set_eq (canon l)) es ≡ Some n = found-canon look none es gs l n laws (sym e) in
-    (has-lookup (canon l) look es ∙ ap is_some there, number-found look none es gs (canon l) n laws there)
+    (has_lookup (canon l) look es ∙ ap is_some there, number-found look none es gs (canon l) n laws there)
 
 -- a list whose set isn't found leads to no entry
 pub unfound : (look : Look) (none : ℕ) (es gs : List Keyed) (l : List KeyValue) (o : Option ℕ) → IsConsistent look none es gs → o ≡ lookup (set_eq (canon l)) es
     → IfNone o ((is_member set_eq (keys_of gs) l || has l (map (entry_at look) es)) ≡ false)
 unfound look none es gs l (Some n) laws e = tt
-unfound look none es gs l None laws e = sym (found-known look es gs l) ∙ ap is_some (lost (found l es gs) refl)
+unfound look none es gs l None laws e = sym (found_known look es gs l) ∙ ap is_some (lost (found l es gs) refl)
   where
     lost : (o : Option ℕ) → found l es gs ≡ o → o ≡ None
     lost None q = refl
     lost (Some n) q = let there : lookup (set_eq (canon l)) es ≡ Some n = found-canon look none es gs l n laws q in absurd (cc)
 
 -- what the empty set's slot has
-pub form-kept : {A : Type 0} (meaning : A → Fold) (slots : Slab (Slot A)) (none : ℕ) (es gs : List Keyed) → IsConsistent (look_in meaning slots) none es gs → HasForm meaning (table_at (look_in meaning slots) none es)
-form-kept meaning slots none es gs laws = by (get slots none) laws.none_filled laws.none_uncounted
+pub form_kept : {A : Type 0} (meaning : A → Fold) (slots : Slab (Slot A)) (none : ℕ) (es gs : List Keyed) → IsConsistent (look_in meaning slots) none es gs → HasForm meaning (table_at (look_in meaning slots) none es)
+form_kept meaning slots none es gs laws = by (get slots none) laws.none_filled laws.none_uncounted
   where
     by : (o : Option (Slot _)) → is_some (option_map (kept_of meaning) o) ≡ true → is_counted (option_map (kept_of meaning) o) ≡ false
         → HasForm meaning (record { none = entry_of none_set (option_map (kept_of meaning) o); entries = map (entry_at (look_in meaning slots)) es })
@@ -202,8 +202,8 @@ linked-set es (g ∷ gs) s linked h = by (set_eq s (canon g.0)) refl h (linked-s
     by false q h ih = ih h
 
 -- there are at most as many lists as sets
-pub lists-few : (look : Look) (none : ℕ) (es gs : List Keyed) → IsConsistent look none es gs → length gs ≤ length es
-lists-few look none es gs laws = omega (arith, few, length-map (keys_of gs) canon, length-map gs (λ (e : Keyed). e.0), length-map es (λ (e : Keyed). e.0))
+pub lists_few : (look : Look) (none : ℕ) (es gs : List Keyed) → IsConsistent look none es gs → length gs ≤ length es
+lists_few look none es gs laws = omega (arith, few, length-map (keys_of gs) canon, length-map gs (λ (e : Keyed). e.0), length-map es (λ (e : Keyed). e.0))
   where
     few : length (map canon (keys_of gs)) ≤ length (keys_of es)
     few = length-le_from_is_member set_eq_equiv (map canon (keys_of gs)) (keys_of es) laws.single (λ s h. sym (is_some-lookup (set_eq s) es) ∙ linked-set es gs s laws.linked h)

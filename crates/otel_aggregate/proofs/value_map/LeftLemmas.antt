@@ -16,7 +16,7 @@ use Rattle.otel_aggregate.specs.value_map.Slots.{Kept, Look, Keyed, remains, for
 use Rattle.otel_aggregate.specs.value_map.Keyed.{Fits, Links, IsConsistent, is_lasting, is_counted}
 use Rattle.otel_aggregate.specs.value_map.Numbers.{KeepLeft}
 use Rattle.otel_aggregate.proofs.All.{all-passing, all-left, distinct-left}
-use Rattle.otel_aggregate.proofs.value_map.KeyedLemmas.{set_eq_equiv, has-lookup, fits-as, kept-new}
+use Rattle.otel_aggregate.proofs.value_map.KeyedLemmas.{set_eq_equiv, has_lookup, fits-as, kept-new}
 
 -- what is filled is left
 abbrev pub is_left : Look → Keyed → Bool
@@ -114,7 +114,7 @@ module _ (look other : Look) (w : (n : ℕ) → other n ≡ left_of (look n)) wh
         by true q h = q
         by false q h =
             let there = lookup-left s n q in
-            there ∙ gone (is_some (other n)) (sym (ap is_some there) ∙ sym (has-lookup s other (filter (is_left other) es)) ∙ h)
+            there ∙ gone (is_some (other n)) (sym (ap is_some there) ∙ sym (has_lookup s other (filter (is_left other) es)) ∙ h)
 
     -- the lists that are left are those whose sets have entries
     pub lists-left : (hs : List Keyed) → AllByRecursion (Links es) hs
@@ -123,7 +123,7 @@ module _ (look other : Look) (w : (n : ℕ) → other n ≡ left_of (look n)) wh
     lists-left (g ∷ hs) h = by (is_left other g) refl (lists-left hs h.1)
       where
         entry : has (canon g.0) (map (entry_at other) (filter (is_left other) es)) ≡ is_some (option_filter (λ m. is_some (other m)) (Some g.1))
-        entry = has-lookup (canon g.0) other (filter (is_left other) es) ∙ ap is_some (lookup-left (canon g.0) g.1 h.0)
+        entry = has_lookup (canon g.0) other (filter (is_left other) es) ∙ ap is_some (lookup-left (canon g.0) g.1 h.0)
 
         those : List (List KeyValue)
         those = filter (λ l. has (canon l) (map (entry_at other) (filter (is_left other) es))) (keys_of hs)

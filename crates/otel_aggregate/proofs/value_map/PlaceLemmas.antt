@@ -2,7 +2,7 @@
 use Rattle.std.proofs.Common.{ℕ, ◌-◌, ◌^◌, ◌<◌, ◌≡◌, List, [], ◌∷◌, ◌++◌, nat_lt, Bool, true, false, cond, not, ◌||◌, Option, Some, None, append-nil, refl, ap, arith, subst, sym, ◌∙◌}
 use Rattle.std.specs.Map.{lookup, keys_of}
 use Rattle.std.specs.Option.{IfSome}
-use Rattle.std.proofs.lemmas.Bool.{or_left, or_right, or_parts}
+use Rattle.std.proofs.lemmas.Bool.{cond_both, or_left, or_right, or_parts}
 use Rattle.std.proofs.lemmas.List.Folds.{list_any-append}
 use Rattle.otel_common.specs.Canonical.{canon}
 use Rattle.otel_common.specs.Equality.{set_eq}
@@ -160,11 +160,7 @@ nothing-left ns (New set list) e = absurd (cc)
 
 -- ======== handles ========
 few-push : (x : AttributeSet) (es : List Entry) (e : Entry) (n : ℕ) → 0 < n → e.handles ≡ 0 → handles_in x es < n → handles_in x (es ++ e ∷ []) < n
-few-push x [] e n some none h = by (is_of x e)
-  where
-    by : (b : Bool) → cond b e.handles 0 < n
-    by true = omega (arith, none)
-    by false = some
+few-push x [] e n some none h = cond_both (is_of x e) e.handles 0 (λ m. m < n) (λ q. omega (arith, none)) (λ q. some)
 few-push x (r ∷ rs) e n some none h = by (is_of x r) h (few-push x rs e n some none)
   where
     by : (b : Bool) → cond b r.handles (handles_in x rs) < n → (handles_in x rs < n → handles_in x (rs ++ e ∷ []) < n) → cond b r.handles (handles_in x (rs ++ e ∷ [])) < n

@@ -58,6 +58,7 @@ fn greater_of<T: Number>(greatest: Option<T>, value: T) -> T
 }
 
 /// Counts one more record in a bucket, if there is such a bucket.
+#[tactic(auto, using(crate::proofs::aggregators::BoundLemmas::counted_set, crate::proofs::aggregators::BoundLemmas::counted_beyond))]
 fn count_in(counts: &mut [u64], bucket: usize)
     ensures { counts.new ≡ counted_in counts.old bucket }
 {

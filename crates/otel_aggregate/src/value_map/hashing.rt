@@ -182,11 +182,13 @@ impl Hasher for SetHasher {
     }
 
     #[inline]
+    #[tactic(auto, unfolding(crate::specs::value_map::Hashing::write))]
     fn write(&mut self, bytes: &[u8]) {
         self.state = after(self.state, bytes);
     }
 
     #[inline]
+    #[tactic(auto, unfolding(crate::specs::value_map::Hashing::write))]
     fn write_u8(&mut self, byte: u8) {
         self.state = after_one(self.state, byte);
     }

@@ -54,6 +54,7 @@ impl Model for KeyTable {
 
 /// The number that a key leads to, where all keys are hashed alike.
 #[inline(always)]
+#[tactic(auto, using(crate::proofs::value_map::HashedLemmas::lookup_hashed))]
 fn number_in(numbers: &Numbered, key: &HashedSet) -> Option<usize>
     requires { (b : SetHashBuilder) × IsHashedBy b key.now × AllByRecursion (λ e. IsHashedBy b e.0) numbers.now.entries }
     ensures { result ≡ lookup (set_eq key.now.key) (map plain numbers.now.entries) }

@@ -202,6 +202,7 @@ impl<A: Aggregator> Table<A> {
     }
 
     /// The law that the empty set's entry isn't counted, and that some aggregator has its records.
+    #[tactic(auto, using(crate::proofs::value_map::KeyedLemmas::form_kept))]
     pub fn law_of_empty_set(&self)
         ensures { HasForm A.meaning self.now.table }
     {
@@ -209,6 +210,7 @@ impl<A: Aggregator> Table<A> {
     }
 
     /// The law that numbers and sets lead to each other.
+    #[tactic(auto, using(crate::proofs::value_map::KeyedLemmas::numbers_placed))]
     pub fn law_of_numbers(&self)
         ensures named { AreNamed self.now.numbers }
         ensures placed { AreNumbered self.now.table.entries self.now.numbers }
@@ -229,6 +231,7 @@ impl<A: Aggregator> Table<A> {
     }
 
     /// The number that a set leads to.
+    #[tactic(auto, using(crate::proofs::value_map::KeyedLemmas::has_lookup))]
     pub fn find_set(&self, set: &HashedSet) -> Option<usize>
         ensures number { result ≡ lookup (set_eq set.now.key) self.now.numbers.sets }
         ensures placed { is_some result ≡ has set.now.key self.now.table.entries }
@@ -248,6 +251,7 @@ impl<A: Aggregator> Table<A> {
 
     /// The number that a list leads to as given: as a set, or as the list that admitted one.
     #[inline(always)]
+    #[tactic(auto, using(crate::proofs::value_map::KeyedLemmas::found_known))]
     pub fn find(&self, list: &HashedSet) -> Option<usize>
         ensures number { result ≡ found list.now.key self.now.numbers.sets self.now.aliases }
         ensures known { is_some result ≡ (is_member set_eq (keys_of self.now.aliases) list.now.key || has list.now.key self.now.table.entries) }

@@ -5,13 +5,13 @@ use Rattle.otel_model_stream.specs.Sets.{AttributeSet}
 use Rattle.otel_aggregate.specs.value_map.Hashed.{Led, plain}
 use Rattle.otel_aggregate.specs.value_map.Keyed.{IsSpelling}
 use Rattle.otel_aggregate.proofs.All.{all-append}
-use Rattle.otel_aggregate.proofs.value_map.HashedLemmas.{lookup-hashed}
+use Rattle.otel_aggregate.proofs.value_map.HashedLemmas.{lookup_hashed}
 use Rattle.otel_aggregate.proofs.value_map.key_table.KeyTable.add.Goals as goal
 
 pub add_key-requires-clause-absent : goal.add_key-requires-clause-absent
 add_key-requires-clause-absent c =
     let es = c.self.inside.sets.entries in
-    lookup-hashed c.self.inside.hasher c.into_key.result c.into_key.ensures.hashed es c.self.invariant.0
+    lookup_hashed c.self.inside.hasher c.into_key.result c.into_key.ensures.hashed es c.self.invariant.0
     ∙ ap (λ (s : AttributeSet). lookup (set_eq s) (map plain es)) c.into_key.ensures.key
     ∙ ap (λ (t : Led). lookup (set_eq c.args.set) t.sets) c.self.view_is
     ∙ c.requires.new.absent
@@ -20,7 +20,7 @@ pub add_key-requires-in-Some-clause-absent : goal.add_key-requires-in-Some-claus
 add_key-requires-in-Some-clause-absent c =
     let es = c.self.inside.aliases.entries in
     let can : IsSpelling c.args.self.now.aliases c.args.set (Some c.in-Some.list) = subst (IsSpelling c.args.self.now.aliases c.args.set) c.in-Some.is c.requires.spelling in
-    lookup-hashed c.self.inside.hasher c.into_key-in-Some.result c.into_key-in-Some.ensures.hashed es c.self.invariant.1
+    lookup_hashed c.self.inside.hasher c.into_key-in-Some.result c.into_key-in-Some.ensures.hashed es c.self.invariant.1
     ∙ ap (λ (s : AttributeSet). lookup (set_eq s) (map plain es)) c.into_key-in-Some.ensures.key
     ∙ ap (λ (t : Led). lookup (set_eq c.in-Some.list) t.aliases) c.self.view_is
     ∙ can.1

@@ -14,13 +14,3 @@ invariant_of-self g c =
     let left = c.clear_others.ensures.look none ∙ ap (λ b. cond b (option_map forgotten (look none)) None) (same_number none) in
     let laws = kept-drained look (look_in g.A.Aggregator.meaning c.clear_others.new.slots) none c.self.inside.keys.sets c.self.inside.keys.aliases c.self.invariant left in
     rw (c.clear.ensures.sets, c.clear.ensures.aliases) laws
-
-pub returns-clause-table : goal.returns-clause-table
-returns-clause-table g c =
-    let look = look_in g.A.Aggregator.meaning c.self.inside.slots in
-    let other = look_in g.A.Aggregator.meaning c.clear_others.new.slots in
-    let none = c.self.inside.none in
-    let left = c.clear_others.ensures.look none ∙ ap (λ b. cond b (option_map forgotten (look none)) None) (same_number none) in
-    ap (λ (es : List Keyed). table_at other none es) c.clear.ensures.sets
-    ∙ table-drained look other none c.self.inside.keys.sets c.self.inside.keys.aliases c.self.invariant left
-    ∙ ap (λ (t : Slotted). drained_table t.table) c.self.view_is
