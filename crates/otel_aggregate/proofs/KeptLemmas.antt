@@ -1,8 +1,8 @@
 -- What a stream of any aggregate keeps stays of its form and number type.
-use Rattle.std.proofs.Common.{◌≡◌, ◌∙◌, refl, ap, sym, subst, ℕ, Bool, true, false, cond, List, [], ◌∷◌, ◌++◌, map, filter, Option, Some, None, is_some, Result, Ok, Err, true≢false}
+use Rattle.std.proofs.Common.{◌≡◌, ◌∙◌, refl, ap, sym, subst, ℕ, Bool, true, false, cond, List, [], ◌∷◌, map, filter, Option, Some, None, is_some, Result, Ok, Err, true≢false}
 use Rattle.std.specs.Prelude.{Box}
 use Rattle.std.specs.declared.alloc.Global.{Global}
-use Rattle.std.specs.Prelude.{ℤ, ◌||◌, nat_lt, OnOk, OnErr, IfOk, IsSome}
+use Rattle.std.specs.Prelude.{ℤ, ◌||◌, nat_lt, OnOk, OnErr, IsSome}
 use Rattle.std.proofs.lemmas.Bool.{cond_both}
 use Rattle.std.specs.List.{AllByRecursion}
 use Rattle.otel_common.specs.Canonical.{canon}

@@ -1,12 +1,12 @@
 -- What draining leaves, and what a stream of observed sums shows.
-use Rattle.std.proofs.Common.{ℕ, ◌≡◌, ◌∙◌, List, [], ◌∷◌, map, Bool, true, false, cond, Option, Some, None, length, refl, ap, sym}
+use Rattle.std.proofs.Common.{ℕ, ◌≡◌, ◌∙◌, List, [], ◌∷◌, map, Bool, true, false, cond, Option, Some, None, refl, ap, sym}
 use Rattle.std.specs.Prelude.{ℤ}
 use Rattle.std.proofs.lemmas.Bool.{cond_both}
 use Rattle.otel_common.specs.Equality.{set_eq}
 use Rattle.otel_common.specs.declared.metrics.Temporality.{Temporality}
 use Rattle.otel_data.specs.declared.points.SumDataPoint.{SumDataPoint}
 use Rattle.otel_model_stream.specs.Sets.{AttributeSet, none_set}
-use Rattle.otel_model_stream.specs.Folds.{Sample, Fold, Total, Last, Spreads, clear_fold, clear_fold_no_spread}
+use Rattle.otel_model_stream.specs.Folds.{Sample, Fold, Total, Last, Spreads, clear_fold}
 use Rattle.otel_model_stream.specs.Entries.{Entry, Point, Table, is_of, on, write, reset, entry_for, entries_with_place}
 use Rattle.otel_model_stream.specs.Maps.{MapState, measured_map, drained_map}
 use Rattle.otel_model_stream.specs.Observed.{fold_in, value_before, difference}

@@ -1,5 +1,5 @@
 -- How many of bounds that rise are below a value, and a count more in a bucket.
-use Rattle.std.proofs.Common.{ℕ, zero, suc, ◌+◌, ◌<◌, ◌≤◌, ◌≡◌, ℤ, int_lt, List, [], ◌∷◌, length, Bool, true, false, cond, ◌&&◌, slice_index_or, slice_set, refl, ap, arith, sym, ◌∙◌, count_by}
+use Rattle.std.proofs.Common.{ℕ, zero, suc, ◌+◌, ◌<◌, ◌≤◌, ◌≡◌, ℤ, int_lt, List, [], ◌∷◌, length, Bool, true, false, cond, slice_index_or, slice_set, refl, ap, arith, sym, ◌∙◌, count_by}
 use Rattle.std.specs.List.Sorted.{IsPartitionedBy, IsPartitionPoint}
 use Rattle.std.proofs.lemmas.Bool.{and_parts}
 use Rattle.std.proofs.lemmas.Int.{ints}

@@ -1,7 +1,7 @@
 -- What a collection leaves in the slots, and of the keys.
 use Rattle.std.proofs.Common.{ℕ, ◌≡◌, Bool, true, false, cond, ◌||◌, List, [], ◌∷◌, Option, Some, None, is_some, map, filter, refl, sym, ap, subst, ◌∙◌, nat_eq, nat_lt, true≢false}
 use Rattle.std.specs.List.{AllByRecursion, IsDistinct}
-use Rattle.std.specs.Map.{lookup, keys_of, values_of}
+use Rattle.std.specs.Map.{lookup, keys_of}
 use Rattle.std.specs.Option.{option_map}
 use Rattle.std.proofs.lemmas.Bool.{or_right}
 use Rattle.std.proofs.lemmas.Map.Made.{IsDistinct-keys_filter}
@@ -11,7 +11,7 @@ use Rattle.otel_common.specs.Canonical.{canon}
 use Rattle.otel_common.specs.Equality.{set_eq}
 use Rattle.otel_common.specs.declared.attributes.KeyValue.{KeyValue}
 use Rattle.otel_model_stream.specs.Sets.{AttributeSet, none_set, over_set}
-use Rattle.otel_model_stream.specs.Entries.{Entry, has, stays, reset, evicted_table, drained_table}
+use Rattle.otel_model_stream.specs.Entries.{Entry, has, stays, reset, evicted_table}
 use Rattle.otel_aggregate.specs.value_map.Slots.{Kept, Look, Keyed, remains, forgotten, left_of, entry_of, entry_at, table_at}
 use Rattle.otel_aggregate.specs.value_map.Keyed.{Fits, Links, IsConsistent, is_lasting, is_counted}
 use Rattle.otel_aggregate.specs.value_map.Numbers.{KeepLeft}
@@ -141,10 +141,3 @@ module _ (look other : Look) (none : ℕ) (es gs : List Keyed) (laws : IsConsist
       by : (o : Option Kept) → (is_some (option_map forgotten o) ≡ is_some o) × (is_lasting (option_map forgotten o) ≡ is_lasting o) × (is_counted (option_map forgotten o) ≡ is_counted o)
       by None = (refl, refl, refl)
       by (Some k) = (refl, refl, refl)
-
-  pub table-drained : table_at other none [] ≡ drained_table (table_at look none es)
-  table-drained = λ i. record { none = (ap (entry_of none_set) w ∙ by (look none) laws.none_filled) i; entries = [] }
-    where
-      by : (o : Option Kept) → is_some o ≡ true → entry_of none_set (option_map forgotten o) ≡ reset (entry_of none_set o)
-      by None q = absurd (true≢false (sym q))
-      by (Some k) q = refl

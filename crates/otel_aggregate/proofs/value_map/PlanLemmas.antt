@@ -97,6 +97,7 @@ module _ (t : Slotted) (l : List KeyValue) (unled : leads l t ≡ false) (absent
     spelling = sym (ap (λ b. cond ((not (set_eq (canon l) none_set) && (not (has (canon l) t.table.entries) && few)) && not b) (l ∷ []) []) own ∙ ap (λ b. cond b (l ∷ []) []) (and_right _ false refl));
     sound = λ room ready. subst (λ s. IsReady t few room s None) (sym is) (record { new = new; absent = away; spelling = tt; admitted = λ h. absurd (true≢false (sym h)); ready = ready });
   }
+
   -- past the limit
   pub plan-past : (set : AttributeSet) → set ≡ canon l → IsPlan t false l (New set None)
   plan-past set is = record {
@@ -104,6 +105,7 @@ module _ (t : Slotted) (l : List KeyValue) (unled : leads l t ≡ false) (absent
     spelling = sym (unadmitted t l);
     sound = λ room ready. subst (λ s. IsReady t false room s None) (sym is) (record { new = new; absent = away; spelling = tt; admitted = λ h. absurd (true≢false (sym h)); ready = ready });
   }
+
   spelled : (b : Bool) → set_eq (canon l) l ≡ b → (o : Option (List KeyValue)) → o ≡ cond b None (Some l) → IsSpelling t.aliases (canon l) o
   spelled true q o e = subst (IsSpelling t.aliases (canon l)) (sym e) tt
   spelled false q o e = subst (IsSpelling t.aliases (canon l)) (sym e) (refl, unaliased)

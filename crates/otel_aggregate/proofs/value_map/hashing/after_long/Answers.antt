@@ -1,4 +1,4 @@
-use Rattle.std.specs.Prelude.{◌≡◌, ℕ, suc, ◌+◌, ◌-◌, ◌*◌, ◌/◌, length, refl}
+use Rattle.std.specs.Prelude.{◌≡◌, ℕ, suc, ◌+◌, ◌*◌, ◌/◌, refl}
 use native.Mathlib.Omega.{arith}
 use Rattle.std.specs.Hash.FoldHasher.{mix_blocks}
 use Rattle.otel_aggregate.proofs.value_map.hashing.after_long.Goals as goal

@@ -1,10 +1,8 @@
-use Rattle.std.proofs.Common.{ap, ◌∙◌, cond, None, List}
+use Rattle.std.proofs.Common.{ap, ◌∙◌, cond, None}
 use Rattle.std.specs.Option.{option_map}
-use Rattle.otel_model_stream.specs.Entries.{drained_table}
-use Rattle.otel_aggregate.specs.value_map.Keyed.{Slotted}
-use Rattle.otel_aggregate.specs.value_map.Slots.{look_in, forgotten, Keyed, table_at}
+use Rattle.otel_aggregate.specs.value_map.Slots.{look_in, forgotten}
 use Rattle.otel_aggregate.proofs.value_map.KeyedLemmas.{same_number}
-use Rattle.otel_aggregate.proofs.value_map.LeftLemmas.{kept-drained, table-drained}
+use Rattle.otel_aggregate.proofs.value_map.LeftLemmas.{kept-drained}
 use Rattle.otel_aggregate.proofs.value_map.table.Table.drain.Goals as goal
 
 pub invariant_of-self : goal.invariant_of-self

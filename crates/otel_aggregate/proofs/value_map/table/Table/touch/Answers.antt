@@ -3,7 +3,7 @@ use Rattle.otel_model_stream.specs.Entries.{write, at_entry}
 use Rattle.otel_aggregate.specs.value_map.Keyed.{Slotted}
 use Rattle.otel_aggregate.specs.value_map.Slots.{written}
 use Rattle.otel_aggregate.specs.value_map.Numbers.{number_of, is_number}
-use Rattle.otel_aggregate.proofs.value_map.TouchLemmas.{kept-touched, table-touched, table-untouched, counted-touched}
+use Rattle.otel_aggregate.proofs.value_map.TouchLemmas.{table-touched, table-untouched, counted-touched}
 use Rattle.otel_aggregate.proofs.value_map.table.Table.touch.Goals as goal
 
 pub returns-clause-table : goal.returns-clause-table
