@@ -4,6 +4,7 @@ use Rattle.std.specs.Prelude.{◌==◌}
 use Rattle.std.specs.List.{AllByRecursion}
 use Rattle.std.proofs.lemmas.List.Folds.{list_any-append}
 use Rattle.std.proofs.lemmas.List.Sums.{count_by-le-length, sum_by_push, sum_by-cons}
+use Rattle.std.proofs.lemmas.Bool.{cond_both, or_left, or_right}
 use Rattle.std.proofs.lemmas.Bool.Decides.{nat_tests}
 use Rattle.otel_common.specs.Equality.{set_eq}
 use Rattle.otel_model_stream.specs.Sets.{AttributeSet, none_set, over_set}
@@ -11,6 +12,7 @@ use Rattle.otel_model_stream.specs.Folds.{Fold, Sample}
 use Rattle.otel_model_stream.specs.Events.{Handles, held_by, without}
 use Rattle.otel_model_stream.specs.Entries.{Entry, Table, new_entry, is_of, has, number_counted, place, on, write, take_handle, drop_handle, reset, at_entry, stays, evicted_table}
 use Rattle.otel_aggregate.specs.value_map.Numbers.{is_placed, handles_in, handles_at}
+use Rattle.otel_aggregate.proofs.All.{all-map, all-each, all-append, all-filter}
 use Rattle.otel_aggregate.proofs.value_map.KeyedLemmas.{same_set, set_eq-self, set_eq-flip}
 use Rattle.otel_aggregate.specs.Links.{handles_at_set, IsCounted, AreHeld}
 
@@ -52,11 +54,8 @@ counted-none x es (p ∷ hs) away h = counted-cons x p hs ∙ by (set_eq p.1 x) 
 -- ======== few ========
 few-counted : (x : AttributeSet) (hs : Handles) (es : List Entry) → AllByRecursion (IsCounted hs) es → handles_in x es ≤ length hs
 few-counted x hs [] h = omega arith
-few-counted x hs (e ∷ es) h = by (is_of x e) (few-counted x hs es h.1)
-  where
-    by : (b : Bool) → handles_in x es ≤ length hs → cond b e.handles (handles_in x es) ≤ length hs
-    by true ih = omega (arith, h.0, count_by-le-length (λ (p : ℕ × AttributeSet). set_eq p.1 e.set) hs)
-    by false ih = ih
+few-counted x hs (e ∷ es) h =
+    cond_both (is_of x e) e.handles (handles_in x es) (λ n. n ≤ length hs) (λ q. omega (arith, h.0, count_by-le-length (λ (p : ℕ × AttributeSet). set_eq p.1 e.set) hs)) (λ q. few-counted x hs es h.1)
 
 pub held-few : (t : Table) (hs : Handles) → AreHeld t hs → length hs < 2 ^ 63 → (x : AttributeSet) → handles_at x t < 2 ^ 64 - 1
 held-few t hs held few x = omega (arith, few-counted x hs (t.none ∷ t.entries) (held.none, held.entries))
@@ -65,41 +64,31 @@ held-few t hs held few x = omega (arith, few-counted x hs (t.none ∷ t.entries)
 -- what keeps the set
 pub has-on : (f : Entry → Entry) → ((e : Entry) → (f e).set ≡ e.set) → (g s : AttributeSet) (es : List Entry) → has s (map (on g f) es) ≡ has s es
 has-on f same g s [] = refl
-has-on f same g s (e ∷ es) = λ i. by (is_of g e) i || has-on f same g s es i
-  where
-    by : (b : Bool) → is_of s (cond b (f e) e) ≡ is_of s e
-    by true = ap (λ (x : AttributeSet). set_eq x s) (same e)
-    by false = refl
+has-on f same g s (e ∷ es) =
+    let one = cond_both (is_of g e) (f e) e (λ x. is_of s x ≡ is_of s e) (λ q. ap (λ (x : AttributeSet). set_eq x s) (same e)) (λ q. refl) in
+    λ i. one i || has-on f same g s es i
 
 placed-on : (f : Entry → Entry) → ((e : Entry) → (f e).set ≡ e.set) → (g : AttributeSet) (es : List Entry) (hs : Handles) → AllByRecursion (IsPlacedIn es) hs → AllByRecursion (IsPlacedIn (map (on g f) es)) hs
-placed-on f same g es [] h = tt
-placed-on f same g es (p ∷ hs) h = (ap (λ b. set_eq p.1 none_set || b) (has-on f same g p.1 es) ∙ h.0, placed-on f same g es hs h.1)
-
-counted-map : (f : Entry → Entry) (g : AttributeSet) (hs rest : Handles) → ((e : Entry) → IsCounted hs e → IsCounted rest (on g f e)) → (es : List Entry) → AllByRecursion (IsCounted hs) es → AllByRecursion (IsCounted rest) (map (on g f) es)
-counted-map f g hs rest one [] h = tt
-counted-map f g hs rest one (e ∷ es) h = (one e h.0, counted-map f g hs rest one es h.1)
+placed-on f same g es hs h = all-each (IsPlacedIn es) (IsPlacedIn (map (on g f) es)) (λ p q. ap (λ b. set_eq p.1 none_set || b) (has-on f same g p.1 es) ∙ q) hs h
 
 -- a record
 pub held-written : (t : Table) (hs : Handles) (g : AttributeSet) (v : Sample) → AreHeld t hs → AreHeld (at_entry g (write v) t) hs
 held-written t hs g v held = record {
   none = one t.none held.none;
-  entries = counted-map (write v) g hs hs one t.entries held.entries;
+  entries = all-map (IsCounted hs) (IsCounted hs) (on g (write v)) one t.entries held.entries;
   placed = placed-on (write v) (λ e. refl) g t.entries hs held.placed;
 }
   where
     one : (e : Entry) → IsCounted hs e → IsCounted hs (on g (write v) e)
-    one e c = by (is_of g e)
-      where
-        by : (b : Bool) → IsCounted hs (cond b (write v e) e)
-        by true = c
-        by false = c
+    one e c = cond_both (is_of g e) (write v e) e (IsCounted hs) (λ q. c) (λ q. c)
 
 -- a handle more
 pub held-taken : (t : Table) (hs : Handles) (h : ℕ) (g : AttributeSet) → is_placed g t.entries ≡ true → AreHeld t hs → AreHeld (at_entry g take_handle t) (hs ++ (h, g) ∷ [])
 held-taken t hs h g there held = record {
   none = one t.none held.none;
-  entries = counted-map take_handle g hs (hs ++ (h, g) ∷ []) one t.entries held.entries;
-  placed = push hs (placed-on take_handle (λ e. refl) g t.entries hs held.placed);
+  entries = all-map (IsCounted hs) (IsCounted (hs ++ (h, g) ∷ [])) (on g take_handle) one t.entries held.entries;
+  placed = all-append (IsPlacedIn (map (on g take_handle) t.entries)) hs ((h, g) ∷ []) (placed-on take_handle (λ e. refl) g t.entries hs held.placed)
+      (ap (λ b. set_eq g none_set || b) (has-on take_handle (λ e. refl) g g t.entries) ∙ there, tt);
 }
   where
     one : (e : Entry) → IsCounted hs e → IsCounted (hs ++ (h, g) ∷ []) (on g take_handle e)
@@ -109,15 +98,11 @@ held-taken t hs h g there held = record {
         by true q = ap (λ n. n + 1) c ∙ sym q
         by false q = omega (arith, c, q)
 
-    push : (ps : Handles) → AllByRecursion (IsPlacedIn (map (on g take_handle) t.entries)) ps → AllByRecursion (IsPlacedIn (map (on g take_handle) t.entries)) (ps ++ (h, g) ∷ [])
-    push [] a = (ap (λ b. set_eq g none_set || b) (has-on take_handle (λ e. refl) g g t.entries) ∙ there, tt)
-    push (p ∷ ps) a = (a.0, push ps a.1)
-
 -- one less
 pub held-dropped : (t : Table) (hs : Handles) (h : ℕ) (g : AttributeSet) → held_by h hs ≡ Some g → AreHeld t hs → AreHeld (at_entry g drop_handle t) (without h hs)
 held-dropped t hs h g e held = record {
   none = one t.none held.none;
-  entries = counted-map drop_handle g hs (without h hs) one t.entries held.entries;
+  entries = all-map (IsCounted hs) (IsCounted (without h hs)) (on g drop_handle) one t.entries held.entries;
   placed = placed-on drop_handle (λ e. refl) g t.entries (without h hs) (drop hs held.placed);
 }
   where
@@ -130,30 +115,25 @@ held-dropped t hs h g e held = record {
 
     drop : (ps : Handles) → AllByRecursion (IsPlacedIn t.entries) ps → AllByRecursion (IsPlacedIn t.entries) (without h ps)
     drop [] a = tt
-    drop (p ∷ ps) a = by (p.0 == h) (drop ps a.1)
-      where
-        by : (b : Bool) → AllByRecursion (IsPlacedIn t.entries) (without h ps) → AllByRecursion (IsPlacedIn t.entries) (cond b ps (p ∷ without h ps))
-        by true r = a.1
-        by false r = (a.0, r)
+    drop (p ∷ ps) a = cond_both (p.0 == h) ps (p ∷ without h ps) (AllByRecursion (IsPlacedIn t.entries)) (λ q. a.1) (λ q. (a.0, drop ps a.1))
 
 -- ======== a place ========
 placed-push : (es : List Entry) (e : Entry) (hs : Handles) → AllByRecursion (IsPlacedIn es) hs → AllByRecursion (IsPlacedIn (es ++ e ∷ [])) hs
-placed-push es e [] h = tt
-placed-push es e (p ∷ hs) h = (by (set_eq p.1 none_set) (has p.1 es) (list_any-append (is_of p.1) es (e ∷ [])) h.0, placed-push es e hs h.1)
+placed-push es e hs h = all-each (IsPlacedIn es) (IsPlacedIn (es ++ e ∷ [])) (λ p q. by p (set_eq p.1 none_set) (has p.1 es) (list_any-append (is_of p.1) es (e ∷ [])) q) hs h
   where
-    by : (a b : Bool) → has p.1 (es ++ e ∷ []) ≡ (b || (is_of p.1 e || false)) → (a || b) ≡ true → (a || has p.1 (es ++ e ∷ [])) ≡ true
-    by true b q r = refl
-    by false true q r = q
-    by false false q r = absurd (true≢false (sym r))
+    by : (p : ℕ × AttributeSet) (a b : Bool) → has p.1 (es ++ e ∷ []) ≡ (b || (is_of p.1 e || false)) → (a || b) ≡ true → (a || has p.1 (es ++ e ∷ [])) ≡ true
+    by p true b q r = refl
+    by p false true q r = q
+    by p false false q r = absurd (true≢false (sym r))
 
 -- an entry without handles more, of a set that had none
 held-push : (none : Entry) (es : List Entry) (hs : Handles) (empty : Fold) (s : AttributeSet) (counted : Bool) → is_placed s es ≡ false
     → AreHeld (record { none = none; entries = es }) hs → AreHeld (record { none = none; entries = es ++ new_entry empty s counted ∷ [] }) hs
-held-push none es hs empty s counted away held = record { none = held.none; entries = push es held.entries; placed = placed-push es (new_entry empty s counted) hs held.placed }
-  where
-    push : (rs : List Entry) → AllByRecursion (IsCounted hs) rs → AllByRecursion (IsCounted hs) (rs ++ new_entry empty s counted ∷ [])
-    push [] a = (sym (counted-none s es hs away held.placed), tt)
-    push (r ∷ rs) a = (a.0, push rs a.1)
+held-push none es hs empty s counted away held = record {
+  none = held.none;
+  entries = all-append (IsCounted hs) es (new_entry empty s counted ∷ []) held.entries (sym (counted-none s es hs away held.placed), tt);
+  placed = placed-push es (new_entry empty s counted) hs held.placed;
+}
 
 pub held-placed : (limit : ℕ) (empty : Fold) (s : AttributeSet) (t : Table) (hs : Handles) → AreHeld t hs → AreHeld (place limit empty s t) hs
 held-placed limit empty s t hs held = by (set_eq s none_set) (has s t.entries) (nat_lt (number_counted t.entries) limit) (has over_set t.entries) refl refl refl
@@ -175,27 +155,15 @@ has-left : (s : AttributeSet) (hs : Handles) (es : List Entry) → 0 < handles_a
 has-left s hs [] some h there = there
 has-left s hs (e ∷ es) some h there = by (is_of s e) (stays e) refl refl there (has-left s hs es some h.1)
   where
-    or-true : (a b : Bool) → b ≡ true → (a || b) ≡ true
-    or-true true b q = refl
-    or-true false b q = q
-
     by : (a b : Bool) → is_of s e ≡ a → stays e ≡ b → (a || has s es) ≡ true → (has s es ≡ true → has s (map reset (filter stays es)) ≡ true)
         → has s (map reset (cond b (e ∷ filter stays es) (filter stays es))) ≡ true
     by true true p q r ih = ap (λ c. c || has s (map reset (filter stays es))) p
     by true false p q r ih =
         let held : 0 < e.handles = subst (λ (x : AttributeSet). 0 < handles_at_set x hs → 0 < e.handles) (same_set e.set s p) (λ n. omega (arith, h.0)) some in
         let more : nat_lt 0 e.handles ≡ true = grind (arith, nat_tests) in
-        absurd (true≢false (sym (or-true e.updated (nat_lt 0 e.handles || set_eq e.set over_set) (ap (λ c. c || set_eq e.set over_set) more)) ∙ q))
-    by false true p q r ih = or-true (is_of s e) (has s (map reset (filter stays es))) (ih r)
+        absurd (true≢false (sym (or_right e.updated (nat_lt 0 e.handles || set_eq e.set over_set) (or_left _ (set_eq e.set over_set) more)) ∙ q))
+    by false true p q r ih = or_right (is_of s e) (has s (map reset (filter stays es))) (ih r)
     by false false p q r ih = ih r
-
-counted-left : (hs : Handles) (es : List Entry) → AllByRecursion (IsCounted hs) es → AllByRecursion (IsCounted hs) (map reset (filter stays es))
-counted-left hs [] h = tt
-counted-left hs (e ∷ es) h = by (stays e) (counted-left hs es h.1)
-  where
-    by : (b : Bool) → AllByRecursion (IsCounted hs) (map reset (filter stays es)) → AllByRecursion (IsCounted hs) (map reset (cond b (e ∷ filter stays es) (filter stays es)))
-    by true ih = (h.0, ih)
-    by false ih = ih
 
 -- a set at which a handle is live is placed still
 placed-left : (all : Handles) (es : List Entry) → AllByRecursion (IsCounted all) es → (hs : Handles) → ((s : AttributeSet) → handles_at_set s hs ≤ handles_at_set s all) → AllByRecursion (IsPlacedIn es) hs → AllByRecursion (IsPlacedIn (map reset (filter stays es))) hs
@@ -213,4 +181,4 @@ pub placed-evicted : (t : Table) (hs : Handles) → AreHeld t hs → AllByRecurs
 placed-evicted t hs held = placed-left hs t.entries held.entries hs (λ s. omega arith) held.placed
 
 pub held-evicted : (t : Table) (hs : Handles) → AreHeld t hs → AreHeld (evicted_table t) hs
-held-evicted t hs held = record { none = held.none; entries = counted-left hs t.entries held.entries; placed = placed-evicted t hs held }
+held-evicted t hs held = record { none = held.none; entries = all-map (IsCounted hs) (IsCounted hs) reset (λ e c. c) (filter stays t.entries) (all-filter (IsCounted hs) stays t.entries held.entries); placed = placed-evicted t hs held }

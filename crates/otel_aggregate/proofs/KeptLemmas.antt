@@ -1,16 +1,16 @@
 -- What a stream of any aggregate keeps stays of its form and number type.
-use Rattle.std.proofs.Common.{◌≡◌, ◌∙◌, refl, ap, sym, subst, ℕ, Bool, true, false, cond, List, [], ◌∷◌, ◌++◌, map, filter, Option, Some, None, is_some, Result, Ok, Err, true≢false}
+use Rattle.std.proofs.Common.{◌≡◌, ◌∙◌, refl, ap, sym, subst, ℕ, Bool, true, false, cond, List, [], ◌∷◌, map, filter, Option, Some, None, is_some, Result, Ok, Err, true≢false}
 use Rattle.std.specs.Prelude.{Box}
 use Rattle.std.specs.declared.alloc.Global.{Global}
-use Rattle.std.specs.Prelude.{ℤ, ◌||◌, nat_lt, OnOk, OnErr, IfOk, IsSome}
-use Rattle.std.proofs.lemmas.List.{map-id}
+use Rattle.std.specs.Prelude.{ℤ, ◌||◌, nat_lt, OnOk, OnErr, IsSome}
+use Rattle.std.proofs.lemmas.Bool.{cond_both}
 use Rattle.std.specs.List.{AllByRecursion}
 use Rattle.otel_common.specs.Canonical.{canon}
 use Rattle.otel_common.specs.Equality.{set_eq}
 use Rattle.otel_common.specs.declared.attributes.KeyValue.{KeyValue}
 use Rattle.otel_model_stream.specs.Sets.{AttributeSet, none_set, over_set}
 use Rattle.otel_model_stream.specs.Folds.{Sample, Fold, Total, Last, Spreads, record_fold, clear_fold, empty_of, lesser, greater}
-use Rattle.otel_model_stream.specs.Entries.{Entry, Table, new_entry, is_of, has, number_counted, entries_with_place, entry_for, on, write, take_handle, drop_handle, reset, stays, points, point_of_entry}
+use Rattle.otel_model_stream.specs.Entries.{Entry, Point, Table, new_entry, is_of, has, number_counted, entries_with_place, entry_for, on, write, take_handle, drop_handle, reset, stays, points, point_of_entry}
 use Rattle.otel_model_stream.specs.Maps.{MapState, KnownMap, new_map, measured_map, measured_list, bound_map, updated_bound, unbound_map, evicted_map, drained_map}
 use Rattle.otel_aggregate.specs.value_map.Contents.{MapContents, known_of}
 use Rattle.otel_aggregate.specs.value_map.Slots.{HasForm}
@@ -19,29 +19,22 @@ use Rattle.otel_aggregate.specs.declared.settings.AnySettings.TheVariants as kin
 use Rattle.otel_aggregate.specs.Any.{Form, form_of, aggregate_of, drains_of}
 use Rattle.otel_aggregate.specs.Kept.{form_of_fold, IsWithin, IsWithinIfSome, IsKept, AreKept, IsKeptMap, IsReportedOf, AreShowable, state_of}
 use Rattle.otel_aggregate.specs.Links.{Link}
+use Rattle.otel_aggregate.proofs.All.{all-map, all-append, all-filter}
 use Rattle.otel_aggregate.proofs.ObservedLemmas.{drained-measured, drained-exchanged}
 
 -- ======== folds ========
-within-either : (s : Bool) (x y : ℤ) (b : Bool) → IsWithin s x → IsWithin s y → IsWithin s (cond b x y)
-within-either s x y true p q = p
-within-either s x y false p q = q
-
 within-lesser : (s : Bool) (o : Option ℤ) (z : ℤ) → IsWithin s z → IsWithinIfSome s o → IsWithinIfSome s (lesser o z)
 within-lesser s None z w h = w
-within-lesser s (Some y) z w h = within-either s z y _ w h
+within-lesser s (Some y) z w h = cond_both _ z y (IsWithin s) (λ q. w) (λ q. h)
 
 within-greater : (s : Bool) (o : Option ℤ) (z : ℤ) → IsWithin s z → IsWithinIfSome s o → IsWithinIfSome s (greater o z)
 within-greater s None z w h = w
-within-greater s (Some y) z w h = within-either s y z _ h w
-
-within-if : (s : Bool) (x y : Option ℤ) (b : Bool) → IsWithinIfSome s x → IsWithinIfSome s y → IsWithinIfSome s (cond b x y)
-within-if s x y true p q = p
-within-if s x y false p q = q
+within-greater s (Some y) z w h = cond_both _ y z (IsWithin s) (λ q. h) (λ q. w)
 
 kept-recorded : (s : Bool) (k : Form) (f : Fold) (v : Sample) → IsWithin s v.wide → IsKept s k f → IsKept s k (record_fold f v)
 kept-recorded s k (Total n) v w h = h
 kept-recorded s k (Last n) v w h = h
-kept-recorded s k (Spreads x) v w h = (h.0, (within-if s _ _ x.has_min_max (within-lesser s x.least v.wide w h.1.0) h.1.0, within-if s _ _ x.has_min_max (within-greater s x.greatest v.wide w h.1.1) h.1.1))
+kept-recorded s k (Spreads x) v w h = (h.0, (cond_both x.has_min_max _ _ (IsWithinIfSome s) (λ q. within-lesser s x.least v.wide w h.1.0) (λ q. h.1.0), cond_both x.has_min_max _ _ (IsWithinIfSome s) (λ q. within-greater s x.greatest v.wide w h.1.1) (λ q. h.1.1)))
 
 kept-cleared : (s : Bool) (k : Form) (f : Fold) → IsKept s k f → IsKept s k (clear_fold f)
 kept-cleared s k (Total n) h = h
@@ -49,43 +42,26 @@ kept-cleared s k (Last n) h = h
 kept-cleared s k (Spreads x) h = (h.0, (tt, tt))
 
 -- ======== entries ========
+abbrev KeepsOf : Bool → Form → Entry → Type 0
+KeepsOf s k e = IsKept s k e.fold
+
 abbrev All : Bool → Form → List Entry → Type 0
-All s k es = AllByRecursion (λ (e : Entry). IsKept s k e.fold) es
-
-all-map : (s : Bool) (k : Form) (h : Entry → Entry) → ((e : Entry) → IsKept s k e.fold → IsKept s k (h e).fold) → (es : List Entry) → All s k es → All s k (map h es)
-all-map s k h one [] all = tt
-all-map s k h one (e ∷ es) all = (one e all.0, all-map s k h one es all.1)
-
-all-if : (s : Bool) (k : Form) (b : Bool) (xs ys : List Entry) → All s k xs → All s k ys → All s k (cond b xs ys)
-all-if s k true xs ys p q = p
-all-if s k false xs ys p q = q
-
-all-filter : (s : Bool) (k : Form) (test : Entry → Bool) (es : List Entry) → All s k es → All s k (filter test es)
-all-filter s k test [] all = tt
-all-filter s k test (e ∷ es) all = all-if s k (test e) (e ∷ filter test es) (filter test es) (all.0, all-filter s k test es all.1) (all-filter s k test es all.1)
-
-all-append : (s : Bool) (k : Form) (xs ys : List Entry) → All s k xs → All s k ys → All s k (xs ++ ys)
-all-append s k [] ys p q = q
-all-append s k (x ∷ xs) ys p q = (p.0, all-append s k xs ys p.1 q)
+All s k es = AllByRecursion (KeepsOf s k) es
 
 all-placed : (s : Bool) (k : Form) (limit : ℕ) (empty : Fold) (set : AttributeSet) (es : List Entry) → IsKept s k empty → All s k es → All s k (entries_with_place limit empty set es)
 all-placed s k limit empty set es none all =
-    all-if s k (set_eq set none_set) _ _ all
-    (all-if s k (has set es) _ _ all
-    (all-if s k (nat_lt (number_counted es) limit) _ _ (all-append s k es (new_entry empty set true ∷ []) all (none, tt))
-    (all-if s k (has over_set es) _ _ all (all-append s k es (new_entry empty over_set false ∷ []) all (none, tt)))))
+    cond_both (set_eq set none_set) _ _ (All s k) (λ q. all) (λ q.
+    cond_both (has set es) _ _ (All s k) (λ q. all) (λ q.
+    cond_both (nat_lt (number_counted es) limit) _ _ (All s k) (λ q. all-append (KeepsOf s k) es (new_entry empty set true ∷ []) all (none, tt)) (λ q.
+    cond_both (has over_set es) _ _ (All s k) (λ q. all) (λ q. all-append (KeepsOf s k) es (new_entry empty over_set false ∷ []) all (none, tt)))))
 
 kept-on : (s : Bool) (k : Form) (g : AttributeSet) (h : Entry → Entry) → ((e : Entry) → IsKept s k e.fold → IsKept s k (h e).fold) → (e : Entry) → IsKept s k e.fold → IsKept s k (on g h e).fold
-kept-on s k g h one e kept = by (is_of g e)
-  where
-    by : (b : Bool) → IsKept s k (cond b (h e) e).fold
-    by true = one e kept
-    by false = kept
+kept-on s k g h one e kept = cond_both (is_of g e) (h e) e (KeepsOf s k) (λ q. one e kept) (λ q. kept)
 
 kept-written : (s : Bool) (k : Form) (g : AttributeSet) (v : Sample) → IsWithin s v.wide → (t : Table) (es : List Entry) → IsKept s k t.none.fold → All s k es → AreKept s k (record { none = on g (write v) t.none; entries = map (on g (write v)) es })
 kept-written s k g v w t es none all =
     let one : (e : Entry) → IsKept s k e.fold → IsKept s k (on g (write v) e).fold = kept-on s k g (write v) (λ (e : Entry). λ (h : IsKept s k e.fold). kept-recorded s k e.fold v w h) in
-    (one t.none none, all-map s k (on g (write v)) one es all)
+    (one t.none none, all-map (KeepsOf s k) (KeepsOf s k) (on g (write v)) one es all)
 
 -- ======== maps ========
 pub kept-measured : (s : Bool) (k : Form) (set : AttributeSet) (v : Sample) (m : MapState) → IsWithin s v.wide → IsKeptMap s k m → IsKeptMap s k (measured_map set v m)
@@ -99,16 +75,16 @@ pub kept-bound : (s : Bool) (k : Form) (set : AttributeSet) (m : MapState) → I
 kept-bound s k set m h =
     let es : List Entry = entries_with_place m.limit m.empty set m.table.entries in
     let one : (e : Entry) → IsKept s k e.fold → IsKept s k (on (entry_for set es) take_handle e).fold = kept-on s k (entry_for set es) take_handle (λ (e : Entry). λ (h : IsKept s k e.fold). h) in
-    (h.0, (one m.table.none h.1.0, all-map s k (on (entry_for set es) take_handle) one es (all-placed s k m.limit m.empty set m.table.entries h.0 h.1.1)))
+    (h.0, (one m.table.none h.1.0, all-map (KeepsOf s k) (KeepsOf s k) (on (entry_for set es) take_handle) one es (all-placed s k m.limit m.empty set m.table.entries h.0 h.1.1)))
 
 pub kept-unbound : (s : Bool) (k : Form) (g : AttributeSet) (m : MapState) → IsKeptMap s k m → IsKeptMap s k (unbound_map g m)
 kept-unbound s k g m h =
     let one : (e : Entry) → IsKept s k e.fold → IsKept s k (on g drop_handle e).fold = kept-on s k g drop_handle (λ (e : Entry). λ (h : IsKept s k e.fold). h) in
-    (h.0, (one m.table.none h.1.0, all-map s k (on g drop_handle) one m.table.entries h.1.1))
+    (h.0, (one m.table.none h.1.0, all-map (KeepsOf s k) (KeepsOf s k) (on g drop_handle) one m.table.entries h.1.1))
 
 pub kept-evicted : (s : Bool) (k : Form) (m : MapState) → IsKeptMap s k m → IsKeptMap s k (evicted_map m)
 kept-evicted s k m h =
-    (h.0, (kept-cleared s k m.table.none.fold h.1.0, all-map s k reset (λ (e : Entry). λ (h : IsKept s k e.fold). kept-cleared s k e.fold h) (filter stays m.table.entries) (all-filter s k stays m.table.entries h.1.1)))
+    (h.0, (kept-cleared s k m.table.none.fold h.1.0, all-map (KeepsOf s k) (KeepsOf s k) reset (λ e. kept-cleared s k e.fold) (filter stays m.table.entries) (all-filter (KeepsOf s k) stays m.table.entries h.1.1)))
 
 pub kept-drained : (s : Bool) (k : Form) (m : MapState) → IsKeptMap s k m → IsKeptMap s k (drained_map m)
 kept-drained s k m h = (h.0, (kept-cleared s k m.table.none.fold h.1.0, tt))
@@ -177,18 +153,9 @@ reported-exchanged meaning s k m t links room (Some r) was is before after held 
     reported-same k m (record m { table = t }) links room (Some r) (drained-exchanged meaning m t was is (before.1.0.0 ∙ reported.3) (after.0.0 ∙ reported.3) held) reported
 
 -- ======== points ========
-all-points : (s : Bool) (k : Form) (es : List Entry) → All s k es → AreShowable s k (map point_of_entry es)
-all-points s k [] all = tt
-all-points s k (e ∷ es) all = (all.0, all-points s k es all.1)
-
 pub showable-points : (s : Bool) (k : Form) (every : Bool) (t : Table) → AreKept s k t → AreShowable s k (points every t)
 showable-points s k every t h =
-    all-points s k _
-    (all-append s k (filter (λ (e : Entry). e.updated) (t.none ∷ [])) (filter (λ (e : Entry). every || e.updated) t.entries)
-    (all-filter s k (λ (e : Entry). e.updated) (t.none ∷ []) (h.0, tt))
-    (all-filter s k (λ (e : Entry). every || e.updated) t.entries h.1))
-
--- what contracts see of points that they see as they are
-pub seen-whole : {X E : Type 0} (r : Result (List X) E) (all : List X) → IfOk r (λ given. map (λ (x : X). x) given ≡ all) → IfOk r (λ given. given ≡ all)
-seen-whole (Ok given) all is = sym (map-id given) ∙ is
-seen-whole (Err e) all is = tt
+    all-map (KeepsOf s k) (λ (p : Point). IsKept s k p.1) point_of_entry (λ e kept. kept) _
+    (all-append (KeepsOf s k) (filter (λ (e : Entry). e.updated) (t.none ∷ [])) (filter (λ (e : Entry). every || e.updated) t.entries)
+    (all-filter (KeepsOf s k) (λ (e : Entry). e.updated) (t.none ∷ []) (h.0, tt))
+    (all-filter (KeepsOf s k) (λ (e : Entry). every || e.updated) t.entries h.1))

@@ -1,3 +1,4 @@
+pub mod All
 pub mod HandleLemmas
 pub mod LinkLemmas
 pub mod PlaceLemmas

@@ -1,14 +1,16 @@
 -- Where handles lead, and that they lead there still.
-use Rattle.std.proofs.Common.{◌≡◌, ℕ, Bool, true, false, cond, List, [], ◌∷◌, ◌++◌, Some, refl, sym, ap, subst, ◌∙◌, nat_eq, arith}
+use Rattle.std.proofs.Common.{◌≡◌, ℕ, Bool, true, false, cond, List, [], ◌∷◌, Some, refl, sym, ap, ◌∙◌, nat_eq, arith}
 use Rattle.std.specs.Prelude.{◌==◌}
 use Rattle.std.specs.List.{AllByRecursion}
 use Rattle.std.specs.Map.{lookup, remove_entry}
 use Rattle.std.specs.Option.{option_map}
+use Rattle.std.proofs.lemmas.Bool.{cond_both}
 use Rattle.std.proofs.lemmas.Bool.Decides.{nat_tests}
 use Rattle.otel_model_stream.specs.Sets.{AttributeSet}
 use Rattle.otel_model_stream.specs.Entries.{Entry}
 use Rattle.otel_model_stream.specs.Events.{Handles, held_by, without}
 use Rattle.otel_aggregate.specs.value_map.Numbers.{Numbers, number_of, set_named, is_placed, KeepNumbers, KeepLeft, AreNamed}
+use Rattle.otel_aggregate.proofs.All.{all-each, all-found}
 use Rattle.otel_aggregate.specs.Links.{Link, handle_of, handles_of, IsLinked}
 
 -- ======== at other numbers ========
@@ -17,8 +19,7 @@ abbrev pub IsLinkedStill : Numbers → Numbers → Link → Type 0
 IsLinkedStill old new p = number_of (set_named p.1 old) new ≡ Some p.1
 
 pub still-kept : (old new : Numbers) → KeepNumbers old new → (ps : List Link) → AllByRecursion (IsLinked old) ps → AllByRecursion (IsLinkedStill old new) ps
-still-kept old new keep [] h = tt
-still-kept old new keep (p ∷ ps) h = (keep (set_named p.1 old) p.1 h.0, still-kept old new keep ps h.1)
+still-kept old new keep ps h = all-each (IsLinked old) (IsLinkedStill old new) (λ p. keep (set_named p.1 old) p.1) ps h
 
 pub still-left : (left : List Entry) (old new : Numbers) → KeepLeft left old new → (ps : List Link) → AllByRecursion (IsLinked old) ps
     → AllByRecursion (λ (q : ℕ × AttributeSet). is_placed q.1 left ≡ true) (handles_of old ps) → AllByRecursion (IsLinkedStill old new) ps
@@ -30,8 +31,7 @@ handles-still old new named [] h = refl
 handles-still old new named (p ∷ ps) h = λ i. (p.0, named (set_named p.1 old) p.1 h.0 i) ∷ handles-still old new named ps h.1 i
 
 pub linked-still : (old new : Numbers) → AreNamed new → (ps : List Link) → AllByRecursion (IsLinkedStill old new) ps → AllByRecursion (IsLinked new) ps
-linked-still old new named [] h = tt
-linked-still old new named (p ∷ ps) h = (ap (λ (s : AttributeSet). number_of s new) (named (set_named p.1 old) p.1 h.0) ∙ h.0, linked-still old new named ps h.1)
+linked-still old new named ps h = all-each (IsLinkedStill old new) (IsLinked new) (λ p q. ap (λ (s : AttributeSet). number_of s new) (named (set_named p.1 old) p.1 q) ∙ q) ps h
 
 -- ======== one handle ========
 test-flip : (a b : ℕ) → (a == b) ≡ nat_eq b a
@@ -49,25 +49,12 @@ held-linked ns h (p ∷ ps) = ap (λ b. cond b (Some (set_named p.1 ns)) (held_b
 
 -- a handle that is found leads to an entry
 pub found-linked : (ns : Numbers) (h n : ℕ) (ps : List Link) → AllByRecursion (IsLinked ns) ps → lookup (nat_eq h) ps ≡ Some n → number_of (set_named n ns) ns ≡ Some n
-found-linked ns h n [] l e = absurd (cc)
-found-linked ns h n (p ∷ ps) l e = by (nat_eq h p.0) e (found-linked ns h n ps l.1)
-  where
-    by : (b : Bool) → cond b (Some p.1) (lookup (nat_eq h) ps) ≡ Some n → (lookup (nat_eq h) ps ≡ Some n → number_of (set_named n ns) ns ≡ Some n) → number_of (set_named n ns) ns ≡ Some n
-    by true r ih = let k : p.1 ≡ n = cc in subst (λ m. number_of (set_named m ns) ns ≡ Some m) k l.0
-    by false r ih = ih r
+found-linked ns h n ps l e = (all-found (IsLinked ns) (nat_eq h) ps n e l).2
 
 -- ======== a handle more, and one less ========
-pub linked-push : (ns : Numbers) (ps : List Link) (p : Link) → AllByRecursion (IsLinked ns) ps → IsLinked ns p → AllByRecursion (IsLinked ns) (ps ++ p ∷ [])
-linked-push ns [] p h l = (l, tt)
-linked-push ns (q ∷ ps) p h l = (h.0, linked-push ns ps p h.1 l)
-
 pub linked-without : (ns : Numbers) (h : ℕ) (ps : List Link) → AllByRecursion (IsLinked ns) ps → AllByRecursion (IsLinked ns) (remove_entry (nat_eq h) ps)
 linked-without ns h [] l = tt
-linked-without ns h (p ∷ ps) l = by (nat_eq h p.0) (linked-without ns h ps l.1)
-  where
-    by : (b : Bool) → AllByRecursion (IsLinked ns) (remove_entry (nat_eq h) ps) → AllByRecursion (IsLinked ns) (cond b ps (p ∷ remove_entry (nat_eq h) ps))
-    by true r = l.1
-    by false r = (l.0, r)
+linked-without ns h (p ∷ ps) l = cond_both (nat_eq h p.0) ps (p ∷ remove_entry (nat_eq h) ps) (AllByRecursion (IsLinked ns)) (λ q. l.1) (λ q. (l.0, linked-without ns h ps l.1))
 
 pub handles-without : (ns : Numbers) (h : ℕ) (ps : List Link) → handles_of ns (remove_entry (nat_eq h) ps) ≡ without h (handles_of ns ps)
 handles-without ns h [] = refl

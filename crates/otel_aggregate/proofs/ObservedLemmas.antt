@@ -1,11 +1,12 @@
 -- What draining leaves, and what a stream of observed sums shows.
-use Rattle.std.proofs.Common.{ℕ, ◌≡◌, ◌∙◌, List, [], ◌∷◌, map, Bool, true, false, cond, Option, Some, None, length, refl, ap, sym}
+use Rattle.std.proofs.Common.{ℕ, ◌≡◌, ◌∙◌, List, [], ◌∷◌, map, Bool, true, false, cond, Option, Some, None, refl, ap, sym}
 use Rattle.std.specs.Prelude.{ℤ}
+use Rattle.std.proofs.lemmas.Bool.{cond_both}
 use Rattle.otel_common.specs.Equality.{set_eq}
 use Rattle.otel_common.specs.declared.metrics.Temporality.{Temporality}
 use Rattle.otel_data.specs.declared.points.SumDataPoint.{SumDataPoint}
 use Rattle.otel_model_stream.specs.Sets.{AttributeSet, none_set}
-use Rattle.otel_model_stream.specs.Folds.{Sample, Fold, Total, Last, Spreads, clear_fold, clear_fold_no_spread}
+use Rattle.otel_model_stream.specs.Folds.{Sample, Fold, Total, Last, Spreads, clear_fold}
 use Rattle.otel_model_stream.specs.Entries.{Entry, Point, Table, is_of, on, write, reset, entry_for, entries_with_place}
 use Rattle.otel_model_stream.specs.Maps.{MapState, measured_map, drained_map}
 use Rattle.otel_model_stream.specs.Observed.{fold_in, value_before, difference}
@@ -19,17 +20,8 @@ use Rattle.otel_aggregate.specs.Kept.{form_of_fold}
 use Rattle.otel_aggregate.specs.Observed.{ObservedState, values_now, since_reported, sums_now, observed_data}
 
 -- ======== draining ========
-cleared-cleared : (f : Fold) → clear_fold (clear_fold f) ≡ clear_fold f
-cleared-cleared (Total n) = refl
-cleared-cleared (Last n) = refl
-cleared-cleared (Spreads s) = clear_fold_no_spread s.has_min_max s.has_sum (length s.counts)
-
 reset-on : (g : AttributeSet) (v : Sample) (e : Entry) → reset (on g (write v) e) ≡ reset e
-reset-on g v e = by (is_of g e)
-  where
-    by : (b : Bool) → reset (cond b (write v e) e) ≡ reset e
-    by true = ap (λ f. record e { updated = false; fold = f }) (cleared-recorded e.fold v)
-    by false = refl
+reset-on g v e = cond_both (is_of g e) (write v e) e (λ x. reset x ≡ reset e) (λ q. ap (λ f. record e { updated = false; fold = f }) (cleared-recorded e.fold v)) (λ q. refl)
 
 -- a map is drained to the same with a record more
 pub drained-measured : (s : AttributeSet) (v : Sample) (m : MapState) → drained_map (measured_map s v m) ≡ drained_map m
@@ -56,17 +48,17 @@ drained-exchanged meaning m t was is before after held =
     (reset-form meaning t is after ∙ ap (λ n. record { set = none_set; counted = false; updated = false; fold = Last 0; handles = n }) held ∙ sym (reset-form meaning m.table was before))
 
 -- ======== points ========
-pub value_before-none : (ps : List Point) (x : AttributeSet) → fold_in ps x ≡ None → value_before ps x ≡ 0
-value_before-none [] x e = refl
-value_before-none (p ∷ ps) x e = by (set_eq p.0 x) e (value_before-none ps x)
+pub value_before_none : (ps : List Point) (x : AttributeSet) → fold_in ps x ≡ None → value_before ps x ≡ 0
+value_before_none [] x e = refl
+value_before_none (p ∷ ps) x e = by (set_eq p.0 x) e (value_before_none ps x)
   where
     by : (b : Bool) → cond b (Some p.1) (fold_in ps x) ≡ None → (fold_in ps x ≡ None → value_before ps x ≡ 0) → cond b (value_of p.1) (value_before ps x) ≡ 0
     by true e ih = absurd (cc)
     by false e ih = ih e
 
-pub value_before-some : (ps : List Point) (x : AttributeSet) (f : Fold) → fold_in ps x ≡ Some f → value_before ps x ≡ value_of f
-value_before-some [] x f e = absurd (cc)
-value_before-some (p ∷ ps) x f e = by (set_eq p.0 x) e (value_before-some ps x f)
+pub value_before_some : (ps : List Point) (x : AttributeSet) (f : Fold) → fold_in ps x ≡ Some f → value_before ps x ≡ value_of f
+value_before_some [] x f e = absurd (cc)
+value_before_some (p ∷ ps) x f e = by (set_eq p.0 x) e (value_before_some ps x f)
   where
     by : (b : Bool) → cond b (Some p.1) (fold_in ps x) ≡ Some f → (fold_in ps x ≡ Some f → value_before ps x ≡ value_of f) → cond b (value_of p.1) (value_before ps x) ≡ value_of f
     by true e ih = let same : p.1 ≡ f = cc in ap value_of same

@@ -4,6 +4,7 @@ use mir.Val.{bool_byte}
 use Rattle.std.specs.List.{AllByRecursion, IsDistinct}
 use Rattle.std.specs.Map.{lookup, remove_entry, set_value, keys_of}
 use Rattle.std.specs.Option.{option_flatten}
+use Rattle.std.proofs.lemmas.Option.{same_Some}
 use Rattle.std.proofs.lemmas.List.{length-append}
 use Rattle.std.proofs.lemmas.Map.{keys-set_value, length-set_value}
 use Rattle.std.proofs.lemmas.Map.Made.{IsDistinct-keys_filter}
@@ -24,10 +25,10 @@ later : (h k : ℕ) (ps : List Place) → nat_eq h k ≡ true → AllByRecursion
 later h k ps e a = unplaced h ps (subst (λ m. AllByRecursion (λ y. nat_eq m y ≡ false) (keys_of ps)) (sym (eqb-true h k e)) a)
 
 -- a number's place says where its link leads
-pub number-live : (h : ℕ) (ps : List Place) → IsDistinct nat_eq (keys_of ps) → option_flatten (lookup (nat_eq h) ps) ≡ lookup (nat_eq h) (live_links ps)
+pub number_live : (h : ℕ) (ps : List Place) → IsDistinct nat_eq (keys_of ps) → option_flatten (lookup (nat_eq h) ps) ≡ lookup (nat_eq h) (live_links ps)
 unfolding IsDistinct
-number-live h [] u = refl
-number-live h (p ∷ ps) u = by (nat_eq h p.0) refl p.1 (number-live h ps u.1)
+number_live h [] u = refl
+number_live h (p ∷ ps) u = by (nat_eq h p.0) refl p.1 (number_live h ps u.1)
   where
     rest : Option ℕ
     rest = lookup (nat_eq h) (live_links ps)
@@ -50,7 +51,7 @@ removed-none h (l ∷ ls) e = by (nat_eq h l.0) e (removed-none h ls)
 
 -- a number without a place
 pub end-unplaced : (h : ℕ) (ps : List Place) → IsDistinct nat_eq (keys_of ps) → lookup (nat_eq h) ps ≡ None → live_links ps ≡ remove_entry (nat_eq h) (live_links ps)
-end-unplaced h ps u e = sym (removed-none h (live_links ps) (sym (number-live h ps u) ∙ ap option_flatten e))
+end-unplaced h ps u e = sym (removed-none h (live_links ps) (sym (number_live h ps u) ∙ ap option_flatten e))
 
 -- an empty place is as no link
 pub end-live : (h : ℕ) (ps : List Place) → IsDistinct nat_eq (keys_of ps) → live_links (set_value (nat_eq h) ps None) ≡ remove_entry (nat_eq h) (live_links ps)
@@ -68,9 +69,6 @@ end-live h (p ∷ ps) u = by (nat_eq h p.0) refl p.1 (end-live h ps u.1)
     by false e None ih = ih
     by false e (Some n) ih = ap (λ (ls : List Link). (p.0, n) ∷ ls) ih ∙ sym (ap (λ b. cond b (live_links ps) ((p.0, n) ∷ rest)) e)
 
-some-same : (a b : Option ℕ) → Some a ≡ Some b → a ≡ b
-some-same a b e = cc
-
 fewer : (h : ℕ) (ps : List Place) (o : Option ℕ) → lookup (nat_eq h) ps ≡ Some o → length (live_links (set_value (nat_eq h) ps None)) + cond (is_some o) 1 0 ≡ length (live_links ps)
 fewer h [] o e = absurd (cc)
 fewer h (p ∷ ps) o e = by (nat_eq h p.0) p.1 e (fewer h ps o)
@@ -78,8 +76,8 @@ fewer h (p ∷ ps) o e = by (nat_eq h p.0) p.1 e (fewer h ps o)
     by : (b : Bool) (m : Option ℕ) → cond b (Some m) (lookup (nat_eq h) ps) ≡ Some o
         → (lookup (nat_eq h) ps ≡ Some o → length (live_links (set_value (nat_eq h) ps None)) + cond (is_some o) 1 0 ≡ length (live_links ps))
         → length (live_links (cond b ((p.0, None) ∷ ps) ((p.0, m) ∷ set_value (nat_eq h) ps None))) + cond (is_some o) 1 0 ≡ length (with_link p.0 m (live_links ps))
-    by true None q ih = ap (λ x. length (live_links ps) + cond (is_some x) 1 0) (sym (some-same None o q)) ∙ omega arith
-    by true (Some n) q ih = ap (λ x. length (live_links ps) + cond (is_some x) 1 0) (sym (some-same (Some n) o q)) ∙ omega arith
+    by true None q ih = ap (λ x. length (live_links ps) + cond (is_some x) 1 0) (sym (same_Some None o q)) ∙ omega arith
+    by true (Some n) q ih = ap (λ x. length (live_links ps) + cond (is_some x) 1 0) (sym (same_Some (Some n) o q)) ∙ omega arith
     by false None q ih = ih q
     by false (Some n) q ih = omega (arith, ih q)
 

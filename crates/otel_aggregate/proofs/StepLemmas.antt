@@ -19,7 +19,9 @@ use Rattle.otel_aggregate.specs.Links.{Link, handle_of, handles_of, IsLinked, Ar
 use Rattle.otel_aggregate.specs.Any.{any_after_collection, observed_in, with_observed}
 use Rattle.otel_aggregate.specs.Observed.{drained_at}
 use Rattle.otel_aggregate.specs.Streams.{AggregateContents, recorded_set, recorded_attributes, taken_from, stream_after_commit, bind_of, stream_after_bind, update_at, stream_after_update, unbind_at, stream_after_unbind}
-use Rattle.otel_aggregate.proofs.LinkLemmas.{IsLinkedStill, still-kept, handles-still, linked-still, linked-push, held-linked}
+use Rattle.otel_aggregate.proofs.All.{all-append}
+use Rattle.otel_aggregate.proofs.LinkLemmas.{IsLinkedStill, still-kept, handles-still, linked-still, held-linked}
+use Rattle.otel_aggregate.proofs.value_map.TableLemmas.{is_some-map}
 use Rattle.otel_aggregate.proofs.HandleLemmas.{has-on, held-written, held-taken, held-placed}
 
 -- a record of the set that is prepared
@@ -101,11 +103,7 @@ held-found ns h ps o e = held-linked ns h ps ∙ ap (option_map (λ n. set_named
 
 -- whether it is live
 pub held-some : (ns : Numbers) (h : ℕ) (ps : List Link) (o : Option ℕ) → o ≡ lookup (nat_eq h) ps → is_some (held_by h (handles_of ns ps)) ≡ is_some o
-held-some ns h ps o e = ap is_some (held-found ns h ps o e) ∙ by o
-  where
-    by : (o : Option ℕ) → is_some (option_map (λ n. set_named n ns) o) ≡ is_some o
-    by None = refl
-    by (Some n) = refl
+held-some ns h ps o e = ap is_some (held-found ns h ps o e) ∙ is_some-map (λ n. set_named n ns) o
 
 pub held-none : (ns : Numbers) (h : ℕ) (ps : List Link) (o : Option ℕ) → o ≡ lookup (nat_eq h) ps → is_some o ≡ false → held_by h (handles_of ns ps) ≡ None
 held-none ns h ps None e n = held-found ns h ps None e
@@ -128,7 +126,7 @@ module _ (old new : Numbers) (before after : MapState) (ps : List Link) (h n : �
     set = s;
     prepared = refl;
     state = is;
-    linked = linked-push new ps (h, n) (linked-still old new named ps still) (ap (λ (x : AttributeSet). number_of x new) name ∙ number);
+    linked = all-append (IsLinked new) ps ((h, n) ∷ []) (linked-still old new named ps still) (ap (λ (x : AttributeSet). number_of x new) name ∙ number, tt);
     held = subst (AreHeld after.table) (sym handles)
         (subst (λ (m : MapState). AreHeld m.table (handles_of old ps ++ (h, bound_to s before) ∷ [])) (sym is)
         (held-taken placed (handles_of old ps) h (bound_to s before) there (held-placed before.limit before.empty s before.table (handles_of old ps) held)));
@@ -184,7 +182,6 @@ no_bind-live s h e = by s.room (held_by h s.live) e
     by true (Some g) e = refl
     by false o e = refl
 
--- ======== a record of the empty set ========
 -- ======== a record through a handle, and its end ========
 -- a handle that isn't live
 without-none : (h : ℕ) (hs : Handles) → held_by h hs ≡ None → without h hs ≡ hs

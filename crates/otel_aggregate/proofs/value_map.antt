@@ -9,4 +9,3 @@ pub mod LeftLemmas
 pub mod ShownLemmas
 pub mod PlanLemmas
 pub mod PlaceLemmas
-pub mod WeightLemmas

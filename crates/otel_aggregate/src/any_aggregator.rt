@@ -48,54 +48,7 @@ pub struct AnyRecord {
     pub bucket: usize,
 }
 
-/// The least value after one more value, if it is kept.
-fn least_with(is_kept: bool, least: Option<i128>, value: i128) -> Option<i128>
-    ensures { result ≡ cond is_kept (lesser least value) least }
-{
-    if !is_kept {
-        return least;
-    }
-    match least {
-        Some(least) => Some(least.min(value)),
-        None => Some(value),
-    }
-}
-
-/// The greatest value after one more value, if it is kept.
-fn greatest_with(is_kept: bool, greatest: Option<i128>, value: i128) -> Option<i128>
-    ensures { result ≡ cond is_kept (greater greatest value) greatest }
-{
-    if !is_kept {
-        return greatest;
-    }
-    match greatest {
-        Some(greatest) => Some(greatest.max(value)),
-        None => Some(value),
-    }
-}
-
 impl AnyBuckets {
-    /// Makes buckets without records.
-    fn new(alloc: Global, config: &BucketsConfig) -> Result<AnyBuckets, Fault>
-        ensures empty { IfOk result (λ made. spread_in made ≡ no_spread config.now.has_min_max config.now.has_sum config.now.number) }
-        ensures only_memory { IsOkUnless result Fault.OutOfMemory }
-    {
-        let buckets = Buckets::create(
-            alloc,
-            &BucketsConfig {
-                number: config.number,
-                has_min_max: false,
-                has_sum: config.has_sum,
-            },
-        )?;
-        Ok(AnyBuckets {
-            has_min_max: config.has_min_max,
-            least: None,
-            greatest: None,
-            buckets,
-        })
-    }
-
     /// Takes in one more record. Out of line, so that a sum's records are short.
     #[inline(never)]
     fn update(&mut self, value: NumberValue, bucket: usize)
@@ -103,30 +56,10 @@ impl AnyBuckets {
     {
         let wide = wide_of(value);
         self.buckets.update((bits_of(value), bucket));
-        self.least = least_with(self.has_min_max, self.least, wide);
-        self.greatest = greatest_with(self.has_min_max, self.greatest, wide);
-    }
-
-    /// Makes buckets with the same records.
-    fn copy(&self, alloc: Global) -> Result<AnyBuckets, Fault>
-        ensures copy { IfOk result (λ made. spread_in made ≡ spread_in self.now) }
-        ensures only_memory { IsOkUnless result Fault.OutOfMemory }
-    {
-        Ok(AnyBuckets {
-            has_min_max: self.has_min_max,
-            least: self.least,
-            greatest: self.greatest,
-            buckets: self.buckets.copy(alloc)?,
-        })
-    }
-
-    /// Forgets all records.
-    fn reset(&mut self)
-        ensures { Spreads (spread_in self.new) ≡ clear_fold (Spreads (spread_in self.old)) }
-    {
-        self.least = None;
-        self.greatest = None;
-        self.buckets.reset();
+        if self.has_min_max {
+            self.least = Some(self.least.map_or(wide, |least| least.min(wide)));
+            self.greatest = Some(self.greatest.map_or(wide, |greatest| greatest.max(wide)));
+        }
     }
 }
 
@@ -161,7 +94,17 @@ impl Aggregator for AnyAggregator {
             AnyConfig::Sum => Ok(AnyAggregator::Sum(0)),
             AnyConfig::LastValue => Ok(AnyAggregator::LastValue(0)),
             AnyConfig::Histogram(config) => {
-                let buckets = AnyBuckets::new(alloc, config)?;
+                let totals = BucketsConfig {
+                    number: config.number,
+                    has_min_max: false,
+                    has_sum: config.has_sum,
+                };
+                let buckets = AnyBuckets {
+                    has_min_max: config.has_min_max,
+                    least: None,
+                    greatest: None,
+                    buckets: Buckets::create(alloc, &totals)?,
+                };
                 Ok(AnyAggregator::Histogram(Box::new(alloc, buckets)?))
             }
         }
@@ -181,7 +124,12 @@ impl Aggregator for AnyAggregator {
             AnyAggregator::Sum(sum) => Ok(AnyAggregator::Sum(*sum)),
             AnyAggregator::LastValue(last) => Ok(AnyAggregator::LastValue(*last)),
             AnyAggregator::Histogram(buckets) => {
-                let copied = buckets.copy(alloc)?;
+                let copied = AnyBuckets {
+                    has_min_max: buckets.has_min_max,
+                    least: buckets.least,
+                    greatest: buckets.greatest,
+                    buckets: buckets.buckets.copy(alloc)?,
+                };
                 Ok(AnyAggregator::Histogram(Box::new(alloc, copied)?))
             }
         }
@@ -199,7 +147,11 @@ impl Aggregator for AnyAggregator {
         match self {
             AnyAggregator::Sum(sum) => *sum = 0,
             AnyAggregator::LastValue(last) => *last = 0,
-            AnyAggregator::Histogram(buckets) => buckets.reset(),
+            AnyAggregator::Histogram(buckets) => {
+                buckets.least = None;
+                buckets.greatest = None;
+                buckets.buckets.reset();
+            }
         }
     }
 }

@@ -14,6 +14,7 @@ use std::marker::Model;
 ///
 /// A handle that ends leaves its place empty. Empty places are cleared away once they are more than half of those that
 /// there is memory for, so the end of a handle takes constant time, amortized.
+#[derive(Drop)]
 pub struct Links {
     /// The number of each handle's entry, or `None` if the handle has ended.
     places: IndexMap<u64, Option<usize>, SetHashBuilder>,
@@ -30,16 +31,6 @@ impl Model for Links {
     ghost view = { λ l. record { entries = live_links l.places.entries; unused = index.spare l.places } };
 
     ghost invariant = { λ l. ArePlaces l.places.entries l.ended };
-}
-
-impl Drop for Links {
-    /// A function of its own, so that no proof about who lets one go looks into it.
-    fn drop(self) {
-        let Links {
-            places: _places,
-            ended: _,
-        } = self;
-    }
 }
 
 impl Links {
@@ -66,6 +57,7 @@ impl Links {
 /// The number of a handle's entry, or `None` if the handle isn't live. It is out of line, as records find most handles at
 /// their places.
 #[inline(never)]
+#[tactic(auto, using(crate::proofs::PlaceLemmas::number_live))]
 pub fn number_in(links: &Links, handle: u64) -> Option<usize>
     ensures { result ≡ lookup (nat_eq handle) links.now.entries }
 {
@@ -111,14 +103,16 @@ pub fn add(links: &mut Links, handle: u64, number: usize) -> usize
     place
 }
 
-/// Takes a handle out and keeps the others in order. Takes constant time, amortized.
+/// Takes a handle out and keeps the others in order. Clears the empty places away if there are too many. Takes constant
+/// time, amortized.
 pub fn take_out(links: &mut Links, handle: u64)
     ensures links { links.new.entries ≡ shift_remove_entry (nat_eq handle) links.old.entries }
     ensures room { spare links.old ≤ spare links.new }
 {
     end(links, handle);
     if links.ended > links.places.capacity() / 2 {
-        clear_ended(links);
+        links.places.retain(|_handle, place| place.is_some());
+        links.ended = 0;
     }
 }
 
@@ -134,13 +128,4 @@ fn end(links: &mut Links, handle: u64)
     };
     let was_live = place.take().is_some();
     links.ended += was_live as usize;
-}
-
-/// Clears the empty places away, and keeps the others in order.
-fn clear_ended(links: &mut Links)
-    ensures links { links.new.entries ≡ links.old.entries }
-    ensures room { spare links.old ≤ spare links.new }
-{
-    links.places.retain(|_handle, place| place.is_some());
-    links.ended = 0;
 }

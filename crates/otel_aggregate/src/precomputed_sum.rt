@@ -25,6 +25,7 @@ use std::marker::{Model, PhantomData};
 /// Each collection empties it, so a set that was not observed since the last one has no point. If the reader's answer
 /// is `Delta`, a point is the observed value less the set's value in the collection before, modulo 2^64; a set that
 /// had no point there counts from 0.
+#[derive(Drop)]
 pub struct PrecomputedSum<T: Number + Drop> {
     stream: AggregateStream,
     number: PhantomData<T>,
@@ -40,16 +41,6 @@ impl<T: Number + Drop> Model for PrecomputedSum<T> {
     ghost view = { λ s. observed_in s.stream };
 
     ghost invariant = { λ s. (s.stream.is_signed ≡ T.is_signed) × (s.stream.drains ≡ true) };
-}
-
-impl<T: Number + Drop> Drop for PrecomputedSum<T> {
-    /// A function of its own, so that no proof about who lets one go looks into it.
-    fn drop(self) {
-        let PrecomputedSum {
-            stream: _stream,
-            number: _,
-        } = self;
-    }
 }
 
 impl<T: Number + Drop> PrecomputedSum<T> {
@@ -110,7 +101,7 @@ impl<T: Number + Drop> PrecomputedSum<T> {
         ensures err { OnErr result (self.new ≡ self.old) }
         ensures only_memory { IsOkUnless result Fault.OutOfMemory }
     {
-        let given = self.stream.observed_data(alloc, now)?;
+        let given = self.stream.sum_data(alloc, now)?;
         self.stream.finish(now);
         Ok(given)
     }

@@ -12,23 +12,13 @@ use crate::values::wide_of;
 use otel_data::numbers::NumberValue;
 
 /// The bounds of a histogram's buckets, and what it keeps besides their counts.
+#[derive(Drop)]
 pub struct HistogramSettings {
     pub bounds: Bounds,
     /// Whether the least and the greatest value are kept.
     pub has_min_max: bool,
     /// Whether a sum is kept; if not, it is 0.
     pub has_sum: bool,
-}
-
-impl Drop for HistogramSettings {
-    /// A function of its own, so that no proof about who lets one go looks into it.
-    fn drop(self) {
-        let HistogramSettings {
-            bounds: _bounds,
-            has_min_max: _,
-            has_sum: _,
-        } = self;
-    }
 }
 
 /// What a stream makes of its records (Metrics SDK, "Aggregation").

@@ -53,6 +53,7 @@ pub trait TypedAggregate<T: Number + Drop> {
 
 /// The records of a stream of one aggregate and one number type, by set (Metrics SDK, "Aggregation"), and the handles,
 /// numbered by the caller, that hold entries.
+#[derive(Drop)]
 pub struct TypedStream<T: Number + Drop, A: TypedAggregate<T>> {
     stream: AggregateStream,
     number: PhantomData<T>,
@@ -68,17 +69,6 @@ impl<T: Number + Drop, A: TypedAggregate<T>> Model for TypedStream<T, A> {
     ghost view = { λ s. s.stream };
 
     ghost invariant = { λ s. (s.stream.is_signed ≡ T.is_signed) × (s.stream.drains ≡ false) × ((settings : A.Settings) × (s.stream.state.aggregate ≡ A.aggregate settings)) };
-}
-
-impl<T: Number + Drop, A: TypedAggregate<T>> Drop for TypedStream<T, A> {
-    /// A function of its own, so that no proof about who lets one go looks into it.
-    fn drop(self) {
-        let TypedStream {
-            stream: _stream,
-            number: _,
-            aggregate: _,
-        } = self;
-    }
 }
 
 impl<T: Number + Drop, A: TypedAggregate<T>> TypedStream<T, A> {

@@ -551,21 +551,8 @@ impl<A: Aggregator> ValueMap<A> {
         self.count
     }
 
-    /// The sets with copies of their aggregators: the empty set if it was updated, then the entries in order of
-    /// making, either all or those that were updated. The map stays unchanged. It shares their sets, and copies none.
-    pub(crate) fn points(
-        &self,
-        alloc: Global,
-        every: bool,
-    ) -> Result<Vec<(SharedItems<KeyValue>, A)>, Fault>
-        ensures points { IfOk result (λ given. copies A.meaning given.items ≡ points every self.now.state.table) }
-        ensures only_memory { IsOkUnless result Fault.OutOfMemory }
-    {
-        self.table.shown(alloc, &Copies {}, every)
-    }
-
-    /// The points that this makes of the sets and aggregators that `points` gives, without copies of those. They share the
-    /// map's sets. Takes memory for the list once.
+    /// The points that this makes of the sets and aggregators: of the empty set if it was updated, then of the entries in
+    /// order of making, either all or those that were updated. They share the map's sets. Takes memory for the list once.
     pub(crate) fn shown<M: PointMaker<A>>(
         &self,
         alloc: Global,
@@ -579,7 +566,7 @@ impl<A: Aggregator> ValueMap<A> {
         self.table.shown(alloc, maker, every)
     }
 
-    /// What the records that `points` shows add up to, modulo 2^64.
+    /// What the records that `shown` shows add up to, modulo 2^64.
     pub fn total(&self, every: bool) -> u64
         ensures { result ≡ wrap (points_total (points every self.now.state.table)) }
     {
@@ -657,7 +644,7 @@ impl<A: Aggregator> ValueMap<A> {
         ensures points { IfOk result (λ given. copies A.meaning given.items ≡ readonly_points self.now.state) }
         ensures only_memory { IsOkUnless result Fault.OutOfMemory }
     {
-        self.points(alloc, true)
+        self.table.shown(alloc, &Copies {}, true)
     }
 
     /// The points of a resetting collection: of the entries updated since the last one. The map then forgets all
@@ -674,7 +661,7 @@ impl<A: Aggregator> ValueMap<A> {
         ensures spent { OnOk result (self.new.pending ≡ None) }
         ensures only_memory { IsOkUnless result Fault.OutOfMemory }
     {
-        let points = self.points(alloc, false)?;
+        let points = self.table.shown(alloc, &Copies {}, false)?;
         self.reset_and_evict();
         Ok(points)
     }
@@ -695,7 +682,7 @@ impl<A: Aggregator> ValueMap<A> {
         ensures spent { OnOk result (self.new.pending ≡ None) }
         ensures only_memory { IsOkUnless result Fault.OutOfMemory }
     {
-        let points = self.points(alloc, true)?;
+        let points = self.table.shown(alloc, &Copies {}, true)?;
         self.drain();
         Ok(points)
     }

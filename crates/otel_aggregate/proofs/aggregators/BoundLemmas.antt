@@ -1,7 +1,7 @@
 -- How many of bounds that rise are below a value, and a count more in a bucket.
-use Rattle.std.proofs.Common.{ℕ, zero, suc, ◌+◌, ◌<◌, ◌≤◌, ◌≡◌, ℤ, int_lt, List, [], ◌∷◌, length, Bool, true, false, cond, ◌&&◌, slice_index_or, slice_set, refl, ap, arith, sym, ◌∙◌, count_by}
+use Rattle.std.proofs.Common.{ℕ, zero, suc, ◌+◌, ◌<◌, ◌≤◌, ◌≡◌, ℤ, int_lt, List, [], ◌∷◌, length, Bool, true, false, cond, slice_index_or, slice_set, refl, ap, arith, sym, ◌∙◌, count_by}
 use Rattle.std.specs.List.Sorted.{IsPartitionedBy, IsPartitionPoint}
-use Rattle.std.proofs.lemmas.Bool.{true≢false}
+use Rattle.std.proofs.lemmas.Bool.{and_parts}
 use Rattle.std.proofs.lemmas.Int.{ints}
 use Rattle.std.proofs.lemmas.List.Sums.{sum_by-cons}
 use Rattle.otel_model_stream.specs.Data.{rises}
@@ -12,19 +12,11 @@ below-below : (a b c : ℤ) → int_lt a b ≡ true → int_lt b c ≡ true → 
 below-below a b c p q = grind (arith, ints)
 
 rises-first : (a b : ℤ) (xs : List ℤ) → rises (a ∷ b ∷ xs) ≡ true → int_lt a b ≡ true
-rises-first a b xs up = by (int_lt a b) refl up
-  where
-    by : (t : Bool) → int_lt a b ≡ t → (t && rises (b ∷ xs)) ≡ true → t ≡ true
-    by true e h = refl
-    by false e h = h
+rises-first a b xs up = (and_parts (int_lt a b) (rises (b ∷ xs)) up).0
 
 rises-rest : (a : ℤ) (xs : List ℤ) → rises (a ∷ xs) ≡ true → rises xs ≡ true
 rises-rest a [] up = refl
-rises-rest a (b ∷ xs) up = by (int_lt a b) up
-  where
-    by : (t : Bool) → (t && rises (b ∷ xs)) ≡ true → rises (b ∷ xs) ≡ true
-    by true h = h
-    by false h = absurd (true≢false (sym h))
+rises-rest a (b ∷ xs) up = (and_parts (int_lt a b) (rises (b ∷ xs)) up).1
 
 -- the first is below what a later one is below
 first-below : (a : ℤ) (xs : List ℤ) (x : ℤ) → rises (a ∷ xs) ≡ true → (j : ℕ) (d : ℤ) → j < length (a ∷ xs) → int_lt (slice_index_or (a ∷ xs) j d) x ≡ true → int_lt a x ≡ true
@@ -52,13 +44,13 @@ point-counts p (x ∷ xs) (suc i) l h =
     more ∙ ap (λ t. cond t 1 0 + count_by p xs) (sym one) ∙ sym (sum_by-cons (λ y. cond (p y) 1 0) x xs)
 
 -- ======== one more in a bucket ========
-pub counted-set : (ns : List ℕ) (i : ℕ) → i < length ns → slice_set ns i (wrap (slice_index_or ns i 0 + 1)) ≡ counted_in ns i
-counted-set [] i l = refl
-counted-set (n ∷ ns) zero l = refl
-counted-set (n ∷ ns) (suc i) l = ap (λ ms. n ∷ ms) (counted-set ns i (omega arith))
+pub counted_set : (ns : List ℕ) (i : ℕ) → i < length ns → slice_set ns i (wrap (slice_index_or ns i 0 + 1)) ≡ counted_in ns i
+counted_set [] i l = refl
+counted_set (n ∷ ns) zero l = refl
+counted_set (n ∷ ns) (suc i) l = ap (λ ms. n ∷ ms) (counted_set ns i (omega arith))
 
 -- a bucket that isn't there
-pub counted-beyond : (ns : List ℕ) (i : ℕ) → length ns ≤ i → ns ≡ counted_in ns i
-counted-beyond [] i l = refl
-counted-beyond (n ∷ ns) zero l = absurd (omega arith)
-counted-beyond (n ∷ ns) (suc i) l = ap (λ ms. n ∷ ms) (counted-beyond ns i (omega arith))
+pub counted_beyond : (ns : List ℕ) (i : ℕ) → length ns ≤ i → ns ≡ counted_in ns i
+counted_beyond [] i l = refl
+counted_beyond (n ∷ ns) zero l = absurd (omega arith)
+counted_beyond (n ∷ ns) (suc i) l = ap (λ ms. n ∷ ms) (counted_beyond ns i (omega arith))

@@ -18,7 +18,7 @@ folded-none (Spreads s) = λ j. Spreads (record {
 })
 
 -- clearing a fold forgets its records
-pub cleared-folded : (empty : Fold) (vs : List Sample) → clear_fold (fold_samples empty vs) ≡ fold_samples empty []
-cleared-folded (Total _) vs = refl
-cleared-folded (Last _) vs = refl
-cleared-folded (Spreads s) vs = ap (λ n. Spreads (no_spread s.has_min_max s.has_sum n)) (length-counts_from 0 (length s.counts) vs) ∙ sym (folded-none (Spreads s))
+pub cleared_folded : (empty : Fold) (vs : List Sample) → clear_fold (fold_samples empty vs) ≡ fold_samples empty []
+cleared_folded (Total _) vs = refl
+cleared_folded (Last _) vs = refl
+cleared_folded (Spreads s) vs = ap (λ n. Spreads (no_spread s.has_min_max s.has_sum n)) (length-counts_from 0 (length s.counts) vs) ∙ sym (folded-none (Spreads s))

@@ -3,6 +3,7 @@ use Rattle.std.proofs.Common.{ℕ, ◌≡◌, Bool, true, false, cond, ◌||◌,
 use Rattle.std.specs.List.{AllByRecursion, IsDistinct, list_any}
 use Rattle.std.specs.Map.{lookup, keys_of, values_of}
 use Rattle.std.specs.Set.{is_member}
+use Rattle.std.proofs.lemmas.Bool.{false_from_ne_true}
 use Rattle.std.proofs.lemmas.Cmp.{nat_eq_equiv}
 use Rattle.std.proofs.lemmas.List.{map-append}
 use Rattle.std.proofs.lemmas.Map.Keys.{IsDistinct-push}
@@ -13,6 +14,7 @@ use Rattle.otel_model_stream.specs.Sets.{AttributeSet, none_set, over_set}
 use Rattle.otel_aggregate.specs.value_map.Slots.{Kept, Look, SameLook, Keyed, with_slot, entry_of, entry_at, table_at}
 use Rattle.otel_aggregate.specs.value_map.Keyed.{Fits, Links, IsConsistent, IsNew, IsSpelling, is_lasting, is_counted, with_spelling}
 use Rattle.otel_aggregate.specs.value_map.Numbers.{KeepNumbers}
+use Rattle.otel_aggregate.proofs.All.{all-map, all-each, all-append}
 use Rattle.otel_aggregate.proofs.value_map.KeyedLemmas.{set_eq-self, set_eq_equiv, same_number, entries-same, fits-as, linked-set}
 
 any_none : (n : ℕ) (ys : List ℕ) → AllByRecursion (λ y. nat_eq n y ≡ false) ys → list_any (nat_eq n) ys ≡ false
@@ -21,23 +23,11 @@ any_none n (y ∷ ys) h = ap (λ b. b || list_any (nat_eq n) ys) h.0 ∙ any_non
 
 -- a filled slot is none that is free
 fits-apart : (look : Look) (n m : ℕ) → is_some (look m) ≡ true → look n ≡ None → nat_eq n m ≡ false
-fits-apart look n m filled vacant = by (nat_eq n m) refl
-  where
-    by : (b : Bool) → nat_eq n m ≡ b → b ≡ false
-    by true q = absurd (true≢false (sym filled ∙ ap is_some (ap look (sym (eqb-true n m q)) ∙ vacant)))
-    by false q = refl
-
-all_apart : (look : Look) (n : ℕ) (es : List Keyed) → AllByRecursion (Fits look) es → look n ≡ None → AllByRecursion (λ y. nat_eq n y ≡ false) (values_of es)
-all_apart look n [] h vacant = tt
-all_apart look n (x ∷ es) h vacant = (fits-apart look n x.1 h.0.filled vacant, all_apart look n es h.1 vacant)
+fits-apart look n m filled vacant = false_from_ne_true (nat_eq n m) (λ q. true≢false (sym filled ∙ ap is_some (ap look (sym (eqb-true n m q)) ∙ vacant)))
 
 fits-same : (look other : Look) (n : ℕ) (es : List Keyed) → AllByRecursion (λ y. nat_eq n y ≡ false) (values_of es) → ((m : ℕ) → nat_eq n m ≡ false → other m ≡ look m) → AllByRecursion (Fits look) es → AllByRecursion (Fits other) es
 fits-same look other n [] h s fits = tt
 fits-same look other n (x ∷ es) h s fits = (fits-as look other x (ap is_some (s x.1 h.0)) (ap is_lasting (s x.1 h.0)) fits.0, fits-same look other n es h.1 s fits.1)
-
-all-push : {X : Type 0} (P : X → Type 0) (xs : List X) (y : X) → AllByRecursion P xs → P y → AllByRecursion P (xs ++ y ∷ [])
-all-push P [] y h p = (p, tt)
-all-push P (x ∷ xs) y h p = (h.0, all-push P xs y h.1 p)
 
 lookup-push : (s : AttributeSet) (es : List Keyed) (y : Keyed) (m : ℕ) → lookup (set_eq s) es ≡ Some m → lookup (set_eq s) (es ++ y ∷ []) ≡ Some m
 lookup-push s [] y m e = absurd (cc)
@@ -54,10 +44,6 @@ lookup-pushed s (x ∷ es) n e = by (set_eq s x.0) e (lookup-pushed s es n)
     by : (b : Bool) → cond b (Some x.1) (lookup (set_eq s) es) ≡ None → (lookup (set_eq s) es ≡ None → lookup (set_eq s) (es ++ (s, n) ∷ []) ≡ Some n) → cond b (Some x.1) (lookup (set_eq s) (es ++ (s, n) ∷ [])) ≡ Some n
     by true r ih = absurd (cc)
     by false r ih = ih r
-
-links-push : (es : List Keyed) (y : Keyed) (gs : List Keyed) → AllByRecursion (Links es) gs → AllByRecursion (Links (es ++ y ∷ [])) gs
-links-push es y [] h = tt
-links-push es y (g ∷ gs) h = (lookup-push (canon g.0) es y g.1 h.0, links-push es y gs h.1)
 
 -- what entries had a number keep it
 pub numbers-pushed : (none : ℕ) (es : List Keyed) (y : Keyed) → KeepNumbers (record { none = none; sets = es }) (record { none = none; sets = es ++ y ∷ [] })
@@ -76,7 +62,7 @@ module _ (look other : Look) (none : ℕ) (es gs : List Keyed) (set : AttributeS
   at_new = w n ∙ ap (λ b. cond b (Some k) (look n)) (same_number n)
 
   away : AllByRecursion (λ y. nat_eq n y ≡ false) (values_of es)
-  away = all_apart look n es laws.fits vacant
+  away = all-map (Fits look) (λ y. nat_eq n y ≡ false) (λ (e : Keyed). e.1) (λ x fit. fits-apart look n x.1 fit.filled vacant) es laws.fits
 
   none_away : nat_eq n none ≡ false
   none_away = fits-apart look n none laws.none_filled vacant
@@ -96,19 +82,15 @@ module _ (look other : Look) (none : ℕ) (es gs : List Keyed) (set : AttributeS
         (IsDistinct-push nat_eq_equiv (none ∷ values_of es) n laws.apart (any_none n (none ∷ values_of es) (none_away, away)));
     unique = subst (IsDistinct set_eq) (sym (map-append (λ (e : Keyed). e.0) es ((set, n) ∷ [])))
         (IsDistinct-push set_eq_equiv (keys_of es) set laws.unique (sym (is_some-lookup (set_eq set) es) ∙ ap is_some new.absent));
-    fits = all-push (Fits other) es (set, n) (fits-same look other n es away rest_same laws.fits)
-        (record { filled = ap is_some at_new; lasting = ap is_lasting at_new ∙ lasts; canonical = new.canonical; some = new.some });
-    linked = links-push es (set, n) gs laws.linked;
+    fits = all-append (Fits other) es ((set, n) ∷ []) (fits-same look other n es away rest_same laws.fits)
+        (record { filled = ap is_some at_new; lasting = ap is_lasting at_new ∙ lasts; canonical = new.canonical; some = new.some }, tt);
+    linked = all-each (Links es) (Links (es ++ (set, n) ∷ [])) (λ g. lookup-push (canon g.0) es (set, n) g.1) gs laws.linked;
     single = laws.single;
   }
 
   -- no list is of the new set
   unlisted : is_member set_eq (map canon (keys_of gs)) set ≡ false
-  unlisted = by (is_member set_eq (map canon (keys_of gs)) set) refl
-    where
-      by : (b : Bool) → is_member set_eq (map canon (keys_of gs)) set ≡ b → b ≡ false
-      by true h = absurd (true≢false (sym (linked-set es gs set laws.linked h) ∙ ap is_some new.absent))
-      by false h = refl
+  unlisted = false_from_ne_true _ (λ h. true≢false (sym (linked-set es gs set laws.linked h) ∙ ap is_some new.absent))
 
   pub kept-added : (list : Option AttributeSet) → IsSpelling gs set list → IsConsistent other none (es ++ (set, n) ∷ []) (with_spelling list n gs)
   kept-added None can = kept-keyed
@@ -119,8 +101,8 @@ module _ (look other : Look) (none : ℕ) (es gs : List Keyed) (set : AttributeS
     apart = kept-keyed.apart;
     unique = kept-keyed.unique;
     fits = kept-keyed.fits;
-    linked = all-push (Links (es ++ (set, n) ∷ [])) gs (l, n) kept-keyed.linked
-        (subst (λ s. lookup (set_eq s) (es ++ (set, n) ∷ []) ≡ Some n) (sym can.0) (lookup-pushed set es n new.absent));
+    linked = all-append (Links (es ++ (set, n) ∷ [])) gs ((l, n) ∷ []) kept-keyed.linked
+        (subst (λ s. lookup (set_eq s) (es ++ (set, n) ∷ []) ≡ Some n) (sym can.0) (lookup-pushed set es n new.absent), tt);
     single = subst (IsDistinct set_eq) (sym (ap (map canon) (map-append (λ (e : Keyed). e.0) gs ((l, n) ∷ [])) ∙ map-append canon (keys_of gs) (l ∷ [])))
         (IsDistinct-push set_eq_equiv (map canon (keys_of gs)) (canon l) laws.single (ap (is_member set_eq (map canon (keys_of gs))) can.0 ∙ unlisted));
   }

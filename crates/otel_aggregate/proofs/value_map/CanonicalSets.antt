@@ -11,10 +11,6 @@ use Rattle.otel_model_stream.specs.Sets.{none_set, over_set}
 pub canon-nil : canon [] ≡ []
 canon-nil = sym (canon-unique [] [] tt (λ q. refl))
 
-pub nil : (l : List KeyValue) → length l ≡ 0 → l ≡ []
-nil [] e = refl
-nil (x ∷ xs) e = absurd (omega (arith, e))
-
 pub canon-over : canon over_set ≡ over_set
 canon-over = sym (canon-unique over_set over_set tt (λ q. refl))
 

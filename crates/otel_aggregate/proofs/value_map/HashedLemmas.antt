@@ -1,5 +1,5 @@
 -- Keys with hashes, looked up as their sets.
-use Rattle.std.proofs.Common.{ℕ, ◌≡◌, ◌==◌, Bool, true, false, cond, ◌&&◌, List, [], ◌∷◌, ◌++◌, map, filter, Some, refl, sym, ap, ◌∙◌}
+use Rattle.std.proofs.Common.{ℕ, ◌≡◌, ◌==◌, Bool, true, false, cond, ◌&&◌, List, [], ◌∷◌, map, Some, refl, sym, ap, ◌∙◌}
 use Rattle.std.specs.Cmp.{unsigned_Decides}
 use Rattle.std.specs.List.{AllByRecursion}
 use Rattle.std.specs.Map.{lookup}
@@ -24,31 +24,8 @@ eq-hashed b q k hq hk = by (set_eq q.key k.key) refl
 
 module _ (b : SetHashBuilder) (q : HashedKey) (hq : IsHashedBy b q) where
   -- so a key leads where its set does
-  pub lookup-hashed : (es : List (HashedKey × ℕ)) → AllByRecursion (λ (e : HashedKey × ℕ). IsHashedBy b e.0) es → lookup (hashed_eq q) es ≡ lookup (set_eq q.key) (map plain es)
-  lookup-hashed [] h = refl
-  lookup-hashed (e ∷ es) h =
+  pub lookup_hashed : (es : List (HashedKey × ℕ)) → AllByRecursion (λ (e : HashedKey × ℕ). IsHashedBy b e.0) es → lookup (hashed_eq q) es ≡ lookup (set_eq q.key) (map plain es)
+  lookup_hashed [] h = refl
+  lookup_hashed (e ∷ es) h =
       ap (λ c. cond c (Some e.1) (lookup (hashed_eq q) es)) (eq-hashed b q e.0 hq h.0)
-      ∙ ap (λ o. cond (set_eq q.key e.0.key) (Some e.1) o) (lookup-hashed es h.1)
-
--- keys that are left by their numbers
-pub plain-filter : (f : ℕ → Bool) (es : List (HashedKey × ℕ)) → map plain (filter (λ (e : HashedKey × ℕ). f e.1) es) ≡ filter (λ e. f e.1) (map plain es)
-plain-filter f [] = refl
-plain-filter f (e ∷ es) = by (f e.1) (plain-filter f es)
-  where
-    by : (c : Bool) → map plain (filter (λ (e : HashedKey × ℕ). f e.1) es) ≡ filter (λ e. f e.1) (map plain es)
-        → map plain (cond c (e ∷ filter (λ (e : HashedKey × ℕ). f e.1) es) (filter (λ (e : HashedKey × ℕ). f e.1) es)) ≡ cond c (plain e ∷ filter (λ e. f e.1) (map plain es)) (filter (λ e. f e.1) (map plain es))
-    by true h = ap (λ l. plain e ∷ l) h
-    by false h = h
-
-module _ {X : Type 0} (P : X → Type 0) where
-  pub all-filter : (f : X → Bool) (xs : List X) → AllByRecursion P xs → AllByRecursion P (filter f xs)
-  all-filter f [] h = tt
-  all-filter f (x ∷ xs) h = by (f x) (all-filter f xs h.1)
-    where
-      by : (c : Bool) → AllByRecursion P (filter f xs) → AllByRecursion P (cond c (x ∷ filter f xs) (filter f xs))
-      by true left = (h.0, left)
-      by false left = left
-
-  pub all-push : (xs : List X) (x : X) → AllByRecursion P xs → P x → AllByRecursion P (xs ++ x ∷ [])
-  all-push [] x h p = (p, tt)
-  all-push (y ∷ xs) x h p = (h.0, all-push xs x h.1 p)
+      ∙ ap (λ o. cond (set_eq q.key e.0.key) (Some e.1) o) (lookup_hashed es h.1)

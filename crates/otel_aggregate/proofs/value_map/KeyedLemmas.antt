@@ -6,6 +6,8 @@ use Rattle.std.specs.Set.{is_member}
 use Rattle.std.specs.Option.{IfNone, IfSome}
 use Rattle.std.proofs.lemmas.Map.Keys.{IsDistinct-head, IsDistinct-tail}
 use Rattle.std.proofs.lemmas.List.{length-map}
+use Rattle.std.proofs.lemmas.List.Elements.{All-from_recursion}
+use Rattle.std.proofs.lemmas.Map.Views.{IfSome-lookup_from_All}
 use Rattle.std.proofs.lemmas.Map.Made.{is_some-lookup, length-le_from_is_member}
 use Rattle.std.specs.Cmp.{IsEquivalence}
 use Rattle.std.specs.Cmp.Lexicographic.{lists_equiv}
@@ -21,6 +23,7 @@ use Rattle.otel_model_stream.specs.Folds.{Fold}
 use Rattle.otel_aggregate.specs.declared.value_map.slots.Slot.{Slot}
 use Rattle.otel_aggregate.specs.value_map.Slots.{Kept, Look, Keyed, kept_of, look_in, entry_of, entry_at, table_at, HasForm}
 use Rattle.otel_aggregate.specs.value_map.Keyed.{Fits, Links, IsConsistent, found, first_of, is_lasting, is_counted}
+use Rattle.otel_aggregate.proofs.All.{all-found}
 use Rattle.otel_aggregate.specs.value_map.Numbers.{named_in, set_named, AreNamed, AreNumbered, IsNumberOf}
 
 pub same_set : (s t : AttributeSet) → set_eq s t ≡ true → s ≡ t
@@ -50,9 +53,9 @@ entry-set s None = refl
 entry-set s (Some k) = refl
 
 -- a set has an entry exactly if it is a key
-pub has-lookup : (s : AttributeSet) (look : Look) (es : List Keyed) → has s (map (entry_at look) es) ≡ is_some (lookup (set_eq s) es)
-has-lookup s look [] = refl
-has-lookup s look (e ∷ es) = ap (λ t. set_eq t s || has s (map (entry_at look) es)) (entry-set e.0 (look e.1)) ∙ ap (λ b. b || has s (map (entry_at look) es)) (set_eq-flip e.0 s) ∙ by (set_eq s e.0) (has-lookup s look es)
+pub has_lookup : (s : AttributeSet) (look : Look) (es : List Keyed) → has s (map (entry_at look) es) ≡ is_some (lookup (set_eq s) es)
+has_lookup s look [] = refl
+has_lookup s look (e ∷ es) = ap (λ t. set_eq t s || has s (map (entry_at look) es)) (entry-set e.0 (look e.1)) ∙ ap (λ b. b || has s (map (entry_at look) es)) (set_eq-flip e.0 s) ∙ by (set_eq s e.0) (has_lookup s look es)
   where
     by : (b : Bool) → has s (map (entry_at look) es) ≡ is_some (lookup (set_eq s) es) → (b || has s (map (entry_at look) es)) ≡ is_some (cond b (Some e.1) (lookup (set_eq s) es))
     by true h = refl
@@ -60,45 +63,23 @@ has-lookup s look (e ∷ es) = ap (λ t. set_eq t s || has s (map (entry_at look
 
 -- a number that is found is none from which all differ
 pub lookup-away : (s : AttributeSet) (es : List Keyed) (m n : ℕ) → lookup (set_eq s) es ≡ Some n → AllByRecursion (λ y. nat_eq m y ≡ false) (values_of es) → nat_eq m n ≡ false
-lookup-away s [] m n e h = absurd (cc)
-lookup-away s (x ∷ es) m n e h = by (set_eq s x.0) e (λ r. lookup-away s es m n r h.1)
-  where
-    by : (b : Bool) → cond b (Some x.1) (lookup (set_eq s) es) ≡ Some n → (lookup (set_eq s) es ≡ Some n → nat_eq m n ≡ false) → nat_eq m n ≡ false
-    by true r ih = let k : x.1 ≡ n = cc in subst (λ j. nat_eq m j ≡ false) k h.0
-    by false r ih = ih r
+lookup-away s es m n e h =
+    let apart : ℕ → Type 0 = λ y. nat_eq m y ≡ false in
+    subst (λ (o : Option ℕ). IfSome o apart) e (IfSome-lookup_from_All apart (set_eq s) es (All-from_recursion apart (values_of es) h))
 
--- a key that is found fits
-pub lookup-fits : (look : Look) (s : AttributeSet) (es : List Keyed) (n : ℕ) → lookup (set_eq s) es ≡ Some n → AllByRecursion (Fits look) es → Fits look (s, n)
-lookup-fits look s [] n e h = absurd (cc)
-lookup-fits look s (x ∷ es) n e h = by (set_eq s x.0) refl e (λ r. lookup-fits look s es n r h.1)
-  where
-    by : (b : Bool) → set_eq s x.0 ≡ b → cond b (Some x.1) (lookup (set_eq s) es) ≡ Some n → (lookup (set_eq s) es ≡ Some n → Fits look (s, n)) → Fits look (s, n)
-    by true q r ih =
-        let k : x.1 ≡ n = cc in
-        let t : x.0 ≡ s = sym (same_set s x.0 q) in
-        subst (Fits look) (λ i. (t i, k i)) h.0
-    by false q r ih = ih r
-
-pub lookup-links : (es : List Keyed) (s : AttributeSet) (gs : List Keyed) (n : ℕ) → lookup (set_eq s) gs ≡ Some n → AllByRecursion (Links es) gs → Links es (s, n)
-lookup-links es s [] n e h = absurd (cc)
-lookup-links es s (x ∷ gs) n e h = by (set_eq s x.0) refl e (λ r. lookup-links es s gs n r h.1)
-  where
-    by : (b : Bool) → set_eq s x.0 ≡ b → cond b (Some x.1) (lookup (set_eq s) gs) ≡ Some n → (lookup (set_eq s) gs ≡ Some n → Links es (s, n)) → Links es (s, n)
-    by true q r ih =
-        let k : x.1 ≡ n = cc in
-        let t : x.0 ≡ s = sym (same_set s x.0 q) in
-        subst (Links es) (λ i. (t i, k i)) h.0
-    by false q r ih = ih r
+-- what holds of each key holds of one that is found
+pub lookup-all : (P : Keyed → Type 0) (s : AttributeSet) (es : List Keyed) (n : ℕ) → lookup (set_eq s) es ≡ Some n → AllByRecursion P es → P (s, n)
+lookup-all P s es n e h = let found = all-found P (set_eq s) es n e h in subst (λ t. P (t, n)) (sym (same_set s found.0 found.1)) found.2
 
 -- what is found under a list stands under its canonical form
 pub found-canon : (look : Look) (none : ℕ) (es gs : List Keyed) (l : List KeyValue) (n : ℕ) → IsConsistent look none es gs → found l es gs ≡ Some n → lookup (set_eq (canon l)) es ≡ Some n
 found-canon look none es gs l n laws e = by (lookup (set_eq l) es) refl e
   where
     by : (o : Option ℕ) → lookup (set_eq l) es ≡ o → first_of o (lookup (set_eq l) gs) ≡ Some n → lookup (set_eq (canon l)) es ≡ Some n
-    by None q r = lookup-links es l gs n r laws.linked
+    by None q r = lookup-all (Links es) l gs n r laws.linked
     by (Some m) q r =
         let k : lookup (set_eq l) es ≡ Some n = cc in
-        subst (λ t. lookup (set_eq t) es ≡ Some n) (sym (lookup-fits look l es n k laws.fits).canonical) k
+        subst (λ t. lookup (set_eq t) es ≡ Some n) (sym (lookup-all (Fits look) l es n k laws.fits).canonical) k
 
 pub some_first : (a b : Option ℕ) → is_some (first_of a b) ≡ (is_some a || is_some b)
 some_first None b = refl
@@ -140,14 +121,14 @@ number-found look none es gs s n laws e =
     let apart : nat_eq none n ≡ false = lookup-away s es none n e (IsDistinct-head nat_eq none (values_of es) laws.apart) in
     let away : nat_eq n none ≡ false = grind (arith, nat_tests) in
     record {
-      some = (lookup-fits look s es n e laws.fits).some;
+      some = (lookup-all (Fits look) s es n e laws.fits).some;
       number = e;
       named = ap (λ b. cond b none_set (named_in n es)) away ∙ named_in-lookup s es n e (IsDistinct-tail nat_eq none (values_of es) laws.apart);
     }
 
 -- a set that has a number is named by it
-pub numbers-name : (look : Look) (none : ℕ) (es gs : List Keyed) → IsConsistent look none es gs → AreNamed (record { none = none; sets = es })
-numbers-name look none es gs laws s n e = by (set_eq s none_set) refl e
+pub numbers_name : (look : Look) (none : ℕ) (es gs : List Keyed) → IsConsistent look none es gs → AreNamed (record { none = none; sets = es })
+numbers_name look none es gs laws s n e = by (set_eq s none_set) refl e
   where
     by : (b : Bool) → set_eq s none_set ≡ b → cond b (Some none) (lookup (set_eq s) es) ≡ Some n → set_named n (record { none = none; sets = es }) ≡ s
     by true q r =
@@ -157,8 +138,8 @@ numbers-name look none es gs laws s n e = by (set_eq s none_set) refl e
     by false q r = (number-found look none es gs s n laws r).named
 
 -- the sets with entries are those with numbers
-pub numbers-placed : (look : Look) (none : ℕ) (es : List Keyed) → AreNumbered (map (entry_at look) es) (record { none = none; sets = es })
-numbers-placed look none es s = by (set_eq s none_set) ∙ ap (λ b. set_eq s none_set || b) (sym (has-lookup s look es))
+pub numbers_placed : (look : Look) (none : ℕ) (es : List Keyed) → AreNumbered (map (entry_at look) es) (record { none = none; sets = es })
+numbers_placed look none es s = by (set_eq s none_set) ∙ ap (λ b. set_eq s none_set || b) (sym (has_lookup s look es))
   where
     by : (b : Bool) → is_some (cond b (Some none) (lookup (set_eq s) es)) ≡ (b || is_some (lookup (set_eq s) es))
     by true = refl
@@ -170,10 +151,10 @@ if_found look none es gs s None laws e = tt
 if_found look none es gs s (Some n) laws e = number-found look none es gs s n laws (sym (e refl))
 
 -- a list that is found is known
-pub found-known : (look : Look) (es gs : List Keyed) (l : List KeyValue) → is_some (found l es gs) ≡ (is_member set_eq (keys_of gs) l || has l (map (entry_at look) es))
-found-known look es gs l =
+pub found_known : (look : Look) (es gs : List Keyed) (l : List KeyValue) → is_some (found l es gs) ≡ (is_member set_eq (keys_of gs) l || has l (map (entry_at look) es))
+found_known look es gs l =
     some_first (lookup (set_eq l) es) (lookup (set_eq l) gs)
-    ∙ (λ i. sym (has-lookup l look es) i || is_some-lookup (set_eq l) gs i)
+    ∙ (λ i. sym (has_lookup l look es) i || is_some-lookup (set_eq l) gs i)
     ∙ or-flip (has l (map (entry_at look) es)) (is_member set_eq (keys_of gs) l)
   where
     or-flip : (a b : Bool) → (a || b) ≡ (b || a)
@@ -183,26 +164,26 @@ found-known look es gs l =
     or-flip false false = refl
 
 -- what a list leads to is the entry of its set
-pub found-placed : (look : Look) (none : ℕ) (es gs : List Keyed) (l : List KeyValue) (o : Option ℕ) → IsConsistent look none es gs → o ≡ found l es gs
+pub found_placed : (look : Look) (none : ℕ) (es gs : List Keyed) (l : List KeyValue) (o : Option ℕ) → IsConsistent look none es gs → o ≡ found l es gs
     → IfSome o (λ _. has (canon l) (map (entry_at look) es) ≡ true) × IfSome o (λ n. IsNumberOf (canon l) n (record { none = none; sets = es }))
-found-placed look none es gs l None laws e = (tt, tt)
-found-placed look none es gs l (Some n) laws e =
+found_placed look none es gs l None laws e = (tt, tt)
+found_placed look none es gs l (Some n) laws e =
     let there : lookup (set_eq (canon l)) es ≡ Some n = found-canon look none es gs l n laws (sym e) in
-    (has-lookup (canon l) look es ∙ ap is_some there, number-found look none es gs (canon l) n laws there)
+    (has_lookup (canon l) look es ∙ ap is_some there, number-found look none es gs (canon l) n laws there)
 
 -- a list whose set isn't found leads to no entry
 pub unfound : (look : Look) (none : ℕ) (es gs : List Keyed) (l : List KeyValue) (o : Option ℕ) → IsConsistent look none es gs → o ≡ lookup (set_eq (canon l)) es
     → IfNone o ((is_member set_eq (keys_of gs) l || has l (map (entry_at look) es)) ≡ false)
 unfound look none es gs l (Some n) laws e = tt
-unfound look none es gs l None laws e = sym (found-known look es gs l) ∙ ap is_some (lost (found l es gs) refl)
+unfound look none es gs l None laws e = sym (found_known look es gs l) ∙ ap is_some (lost (found l es gs) refl)
   where
     lost : (o : Option ℕ) → found l es gs ≡ o → o ≡ None
     lost None q = refl
     lost (Some n) q = let there : lookup (set_eq (canon l)) es ≡ Some n = found-canon look none es gs l n laws q in absurd (cc)
 
 -- what the empty set's slot has
-pub form-kept : {A : Type 0} (meaning : A → Fold) (slots : Slab (Slot A)) (none : ℕ) (es gs : List Keyed) → IsConsistent (look_in meaning slots) none es gs → HasForm meaning (table_at (look_in meaning slots) none es)
-form-kept meaning slots none es gs laws = by (get slots none) laws.none_filled laws.none_uncounted
+pub form_kept : {A : Type 0} (meaning : A → Fold) (slots : Slab (Slot A)) (none : ℕ) (es gs : List Keyed) → IsConsistent (look_in meaning slots) none es gs → HasForm meaning (table_at (look_in meaning slots) none es)
+form_kept meaning slots none es gs laws = by (get slots none) laws.none_filled laws.none_uncounted
   where
     by : (o : Option (Slot _)) → is_some (option_map (kept_of meaning) o) ≡ true → is_counted (option_map (kept_of meaning) o) ≡ false
         → HasForm meaning (record { none = entry_of none_set (option_map (kept_of meaning) o); entries = map (entry_at (look_in meaning slots)) es })
@@ -221,8 +202,8 @@ linked-set es (g ∷ gs) s linked h = by (set_eq s (canon g.0)) refl h (linked-s
     by false q h ih = ih h
 
 -- there are at most as many lists as sets
-pub lists-few : (look : Look) (none : ℕ) (es gs : List Keyed) → IsConsistent look none es gs → length gs ≤ length es
-lists-few look none es gs laws = omega (arith, few, length-map (keys_of gs) canon, length-map gs (λ (e : Keyed). e.0), length-map es (λ (e : Keyed). e.0))
+pub lists_few : (look : Look) (none : ℕ) (es gs : List Keyed) → IsConsistent look none es gs → length gs ≤ length es
+lists_few look none es gs laws = omega (arith, few, length-map (keys_of gs) canon, length-map gs (λ (e : Keyed). e.0), length-map es (λ (e : Keyed). e.0))
   where
     few : length (map canon (keys_of gs)) ≤ length (keys_of es)
     few = length-le_from_is_member set_eq_equiv (map canon (keys_of gs)) (keys_of es) laws.single (λ s h. sym (is_some-lookup (set_eq s) es) ∙ linked-set es gs s laws.linked h)

@@ -1,55 +1,22 @@
 -- What a collection leaves in the slots, and of the keys.
-use Rattle.std.proofs.Common.{ℕ, ◌≡◌, Bool, true, false, cond, ◌||◌, List, [], ◌∷◌, Option, Some, None, is_some, map, filter, refl, sym, ap, ◌∙◌, nat_eq, nat_lt, true≢false}
+use Rattle.std.proofs.Common.{ℕ, ◌≡◌, Bool, true, false, cond, ◌||◌, List, [], ◌∷◌, Option, Some, None, is_some, map, filter, refl, sym, ap, subst, ◌∙◌, nat_eq, nat_lt, true≢false}
 use Rattle.std.specs.List.{AllByRecursion, IsDistinct}
-use Rattle.std.specs.Map.{lookup, keys_of, values_of}
+use Rattle.std.specs.Map.{lookup, keys_of}
 use Rattle.std.specs.Option.{option_map}
+use Rattle.std.proofs.lemmas.Bool.{or_right}
 use Rattle.std.proofs.lemmas.Map.Made.{IsDistinct-keys_filter}
+use Rattle.std.proofs.lemmas.Simd.{map-map}
 use Rattle.std.proofs.lemmas.Map.Entries.{lookup-filter-values, option_filter}
 use Rattle.otel_common.specs.Canonical.{canon}
 use Rattle.otel_common.specs.Equality.{set_eq}
 use Rattle.otel_common.specs.declared.attributes.KeyValue.{KeyValue}
 use Rattle.otel_model_stream.specs.Sets.{AttributeSet, none_set, over_set}
-use Rattle.otel_model_stream.specs.Entries.{Entry, has, stays, reset, evicted_table, drained_table}
+use Rattle.otel_model_stream.specs.Entries.{Entry, has, stays, reset, evicted_table}
 use Rattle.otel_aggregate.specs.value_map.Slots.{Kept, Look, Keyed, remains, forgotten, left_of, entry_of, entry_at, table_at}
 use Rattle.otel_aggregate.specs.value_map.Keyed.{Fits, Links, IsConsistent, is_lasting, is_counted}
 use Rattle.otel_aggregate.specs.value_map.Numbers.{KeepLeft}
-use Rattle.otel_aggregate.proofs.value_map.KeyedLemmas.{set_eq_equiv, has-lookup, fits-as}
-
--- no key left
-apart-filter : (t : Keyed → Bool) (n : ℕ) (es : List Keyed) → AllByRecursion (λ y. nat_eq n y ≡ false) (values_of es) → AllByRecursion (λ y. nat_eq n y ≡ false) (values_of (filter t es))
-apart-filter t n [] h = tt
-apart-filter t n (x ∷ es) h = by (t x) (apart-filter t n es h.1)
-  where
-    by : (b : Bool) → AllByRecursion (λ y. nat_eq n y ≡ false) (values_of (filter t es)) → AllByRecursion (λ y. nat_eq n y ≡ false) (values_of (cond b (x ∷ filter t es) (filter t es)))
-    by true r = (h.0, r)
-    by false r = r
-
-distinct-filter : (t : Keyed → Bool) (es : List Keyed) → IsDistinct nat_eq (values_of es) → IsDistinct nat_eq (values_of (filter t es))
-unfolding IsDistinct
-distinct-filter t [] h = tt
-distinct-filter t (x ∷ es) h = by (t x) (distinct-filter t es h.1)
-  where
-    by : (b : Bool) → IsDistinct nat_eq (values_of (filter t es)) → IsDistinct nat_eq (values_of (cond b (x ∷ filter t es) (filter t es)))
-    by true r = (apart-filter t x.1 es h.0, r)
-    by false r = r
-
--- no two lists of one set left
-sets-filter : (t : Keyed → Bool) (s : AttributeSet) (gs : List Keyed) → AllByRecursion (λ x. set_eq s x ≡ false) (map canon (keys_of gs)) → AllByRecursion (λ x. set_eq s x ≡ false) (map canon (keys_of (filter t gs)))
-sets-filter t s [] h = tt
-sets-filter t s (g ∷ gs) h = by (t g) (sets-filter t s gs h.1)
-  where
-    by : (b : Bool) → AllByRecursion (λ x. set_eq s x ≡ false) (map canon (keys_of (filter t gs))) → AllByRecursion (λ x. set_eq s x ≡ false) (map canon (keys_of (cond b (g ∷ filter t gs) (filter t gs))))
-    by true r = (h.0, r)
-    by false r = r
-
-single-filter : (t : Keyed → Bool) (gs : List Keyed) → IsDistinct set_eq (map canon (keys_of gs)) → IsDistinct set_eq (map canon (keys_of (filter t gs)))
-unfolding IsDistinct
-single-filter t [] h = tt
-single-filter t (g ∷ gs) h = by (t g) (single-filter t gs h.1)
-  where
-    by : (b : Bool) → IsDistinct set_eq (map canon (keys_of (filter t gs))) → IsDistinct set_eq (map canon (keys_of (cond b (g ∷ filter t gs) (filter t gs))))
-    by true r = (sets-filter t (canon g.0) gs h.0, r)
-    by false r = r
+use Rattle.otel_aggregate.proofs.All.{all-passing, all-left, distinct-left}
+use Rattle.otel_aggregate.proofs.value_map.KeyedLemmas.{set_eq_equiv, has_lookup, fits-as, kept-new}
 
 -- what is filled is left
 abbrev pub is_left : Look → Keyed → Bool
@@ -91,63 +58,31 @@ module _ (look other : Look) (w : (n : ℕ) → other n ≡ left_of (look n)) wh
       by true p f ih = ap (λ b. map (entry_at other) (cond b (x ∷ rest) rest)) p ∙ (λ i. f refl i ∷ ih i)
       by false p f ih = ap (λ b. map (entry_at other) (cond b (x ∷ rest) rest)) p ∙ ih
 
-  lasting-left : (n : ℕ) → is_some (other n) ≡ true → is_lasting (other n) ≡ is_lasting (look n)
-  lasting-left n s = by (look n) (w n)
+  -- what forgetting keeps
+  same-left : (f : Option Kept → Bool) → ((k : Kept) → f (Some (forgotten k)) ≡ f (Some k)) → (n : ℕ) → is_some (other n) ≡ true → f (other n) ≡ f (look n)
+  same-left f same n s = by (look n) (w n)
     where
-      deep : (k : Kept) (b : Bool) → other n ≡ cond b (Some (forgotten k)) None → is_lasting (other n) ≡ k.lasting
-      deep k true r = ap is_lasting r
+      deep : (k : Kept) (b : Bool) → other n ≡ cond b (Some (forgotten k)) None → f (other n) ≡ f (Some k)
+      deep k true r = ap f r ∙ same k
       deep k false r = absurd (true≢false (sym s ∙ ap is_some r))
 
-      by : (o : Option Kept) → other n ≡ left_of o → is_lasting (other n) ≡ is_lasting o
-      by None q = ap is_lasting q
+      by : (o : Option Kept) → other n ≡ left_of o → f (other n) ≡ f o
+      by None q = ap f q
       by (Some k) q = deep k (remains k) q
-
-  counted-left : (n : ℕ) → is_some (other n) ≡ true → is_counted (other n) ≡ is_counted (look n)
-  counted-left n s = by (look n) (w n)
-    where
-      deep : (k : Kept) (b : Bool) → other n ≡ cond b (Some (forgotten k)) None → is_counted (other n) ≡ k.counted
-      deep k true r = ap is_counted r
-      deep k false r = absurd (true≢false (sym s ∙ ap is_some r))
-
-      by : (o : Option Kept) → other n ≡ left_of o → is_counted (other n) ≡ is_counted o
-      by None q = ap is_counted q
-      by (Some k) q = deep k (remains k) q
-
-  fits-left : (es : List Keyed) → AllByRecursion (Fits look) es → AllByRecursion (Fits other) (filter (is_left other) es)
-  fits-left [] h = tt
-  fits-left (x ∷ es) h = by (is_left other x) refl (fits-left es h.1)
-    where
-      by : (b : Bool) → is_left other x ≡ b → AllByRecursion (Fits other) (filter (is_left other) es) → AllByRecursion (Fits other) (cond b (x ∷ filter (is_left other) es) (filter (is_left other) es))
-      by true q r = (fits-as look other x (q ∙ sym h.0.filled) (lasting-left x.1 q) h.0, r)
-      by false q r = r
 
   none-left : (none : ℕ) → is_some (look none) ≡ true → is_lasting (look none) ≡ true → (is_some (other none) ≡ true) × (entry_of none_set (other none) ≡ reset (entry_of none_set (look none)))
   none-left none is lasts = by (look none) refl
     where
-      last : (a b c : Bool) → c ≡ true → (a || (b || c)) ≡ true
-      last true b c e = refl
-      last false true c e = refl
-      last false false c e = e
-
       by : (o : Option Kept) → look none ≡ o → (is_some (other none) ≡ true) × (entry_of none_set (other none) ≡ reset (entry_of none_set o))
       by None q = absurd (true≢false (sym is ∙ ap is_some q))
       by (Some k) q =
-          let keep : remains k ≡ true = last k.updated (nat_lt 0 k.handles) k.lasting (sym (ap is_lasting q) ∙ lasts) in
+          let keep : remains k ≡ true = or_right k.updated _ (or_right (nat_lt 0 k.handles) k.lasting (sym (ap is_lasting q) ∙ lasts)) in
           let new : other none ≡ Some (forgotten k) = w none ∙ ap left_of q ∙ ap (λ b. cond b (Some (forgotten k)) None) keep in
           (ap is_some new, ap (entry_of none_set) new)
 
   module _ (none : ℕ) (es gs : List Keyed) (laws : IsConsistent look none es gs) where
     lookup-left : (s : AttributeSet) (n : ℕ) → lookup (set_eq s) es ≡ Some n → lookup (set_eq s) (filter (is_left other) es) ≡ option_filter (λ m. is_some (other m)) (Some n)
     lookup-left s n e = lookup-filter-values set_eq_equiv (λ m. is_some (other m)) s es laws.unique ∙ ap (option_filter (λ m. is_some (other m))) e
-
-    links-left : (hs : List Keyed) → AllByRecursion (Links es) hs → AllByRecursion (Links (filter (is_left other) es)) (filter (is_left other) hs)
-    links-left [] h = tt
-    links-left (g ∷ hs) h = by (is_left other g) refl (links-left hs h.1)
-      where
-        by : (b : Bool) → is_left other g ≡ b → AllByRecursion (Links (filter (is_left other) es)) (filter (is_left other) hs)
-            → AllByRecursion (Links (filter (is_left other) es)) (cond b (g ∷ filter (is_left other) hs) (filter (is_left other) hs))
-        by true q r = (lookup-left (canon g.0) g.1 h.0 ∙ ap (λ b. cond b (Some g.1) None) q, r)
-        by false q r = r
 
     pub table-left : table_at other none (filter (is_left other) es) ≡ evicted_table (table_at look none es)
     table-left = λ i. record { none = (none-left none laws.none_filled laws.none_lasts).1 i; entries = entries-left es laws.fits i }
@@ -158,13 +93,13 @@ module _ (look other : Look) (w : (n : ℕ) → other n ≡ left_of (look n)) wh
         let n = none-left none laws.none_filled laws.none_lasts in
         record {
           none_filled = n.0;
-          none_lasts = lasting-left none n.0 ∙ laws.none_lasts;
-          none_uncounted = counted-left none n.0 ∙ laws.none_uncounted;
-          apart = (apart-filter (is_left other) none es laws.apart.0, distinct-filter (is_left other) es laws.apart.1);
+          none_lasts = same-left is_lasting (λ k. refl) none n.0 ∙ laws.none_lasts;
+          none_uncounted = same-left is_counted (λ k. refl) none n.0 ∙ laws.none_uncounted;
+          apart = (all-left (λ y. nat_eq none y ≡ false) (λ (e : Keyed). e.1) (is_left other) es laws.apart.0, distinct-left nat_eq (λ (e : Keyed). e.1) (is_left other) es laws.apart.1);
           unique = IsDistinct-keys_filter set_eq (is_left other) es laws.unique;
-          fits = fits-left es laws.fits;
-          linked = links-left gs laws.linked;
-          single = single-filter (is_left other) gs laws.single;
+          fits = all-passing (Fits look) (Fits other) (is_left other) (λ x q h. fits-as look other x (q ∙ sym h.filled) (same-left is_lasting (λ k. refl) x.1 q) h) es laws.fits;
+          linked = all-passing (Links es) (Links (filter (is_left other) es)) (is_left other) (λ g q h. lookup-left (canon g.0) g.1 h ∙ ap (λ b. cond b (Some g.1) None) q) gs laws.linked;
+          single = subst (IsDistinct set_eq) (sym (map-map canon (λ (g : Keyed). g.0) (filter (is_left other) gs))) (distinct-left set_eq (λ (g : Keyed). canon g.0) (is_left other) gs (subst (IsDistinct set_eq) (map-map canon (λ (g : Keyed). g.0) gs) laws.single));
         }
 
     -- an entry that is left keeps its number
@@ -179,7 +114,7 @@ module _ (look other : Look) (w : (n : ℕ) → other n ≡ left_of (look n)) wh
         by true q h = q
         by false q h =
             let there = lookup-left s n q in
-            there ∙ gone (is_some (other n)) (sym (ap is_some there) ∙ sym (has-lookup s other (filter (is_left other) es)) ∙ h)
+            there ∙ gone (is_some (other n)) (sym (ap is_some there) ∙ sym (has_lookup s other (filter (is_left other) es)) ∙ h)
 
     -- the lists that are left are those whose sets have entries
     pub lists-left : (hs : List Keyed) → AllByRecursion (Links es) hs
@@ -188,7 +123,7 @@ module _ (look other : Look) (w : (n : ℕ) → other n ≡ left_of (look n)) wh
     lists-left (g ∷ hs) h = by (is_left other g) refl (lists-left hs h.1)
       where
         entry : has (canon g.0) (map (entry_at other) (filter (is_left other) es)) ≡ is_some (option_filter (λ m. is_some (other m)) (Some g.1))
-        entry = has-lookup (canon g.0) other (filter (is_left other) es) ∙ ap is_some (lookup-left (canon g.0) g.1 h.0)
+        entry = has_lookup (canon g.0) other (filter (is_left other) es) ∙ ap is_some (lookup-left (canon g.0) g.1 h.0)
 
         those : List (List KeyValue)
         those = filter (λ l. has (canon l) (map (entry_at other) (filter (is_left other) es))) (keys_of hs)
@@ -201,25 +136,8 @@ module _ (look other : Look) (w : (n : ℕ) → other n ≡ left_of (look n)) wh
 -- where all are forgotten but the empty set's
 module _ (look other : Look) (none : ℕ) (es gs : List Keyed) (laws : IsConsistent look none es gs) (w : other none ≡ option_map forgotten (look none)) where
   pub kept-drained : IsConsistent other none [] []
-  unfolding IsDistinct
-  kept-drained = record {
-    none_filled = ap is_some w ∙ (by (look none)).0 ∙ laws.none_filled;
-    none_lasts = ap is_lasting w ∙ (by (look none)).1 ∙ laws.none_lasts;
-    none_uncounted = ap is_counted w ∙ (by (look none)).2 ∙ laws.none_uncounted;
-    apart = (tt, tt);
-    unique = tt;
-    fits = tt;
-    linked = tt;
-    single = tt;
-  }
+  kept-drained = kept-new other none (ap is_some w ∙ (by (look none)).0 ∙ laws.none_filled) (ap is_lasting w ∙ (by (look none)).1 ∙ laws.none_lasts) (ap is_counted w ∙ (by (look none)).2 ∙ laws.none_uncounted)
     where
       by : (o : Option Kept) → (is_some (option_map forgotten o) ≡ is_some o) × (is_lasting (option_map forgotten o) ≡ is_lasting o) × (is_counted (option_map forgotten o) ≡ is_counted o)
       by None = (refl, refl, refl)
       by (Some k) = (refl, refl, refl)
-
-  pub table-drained : table_at other none [] ≡ drained_table (table_at look none es)
-  table-drained = λ i. record { none = (ap (entry_of none_set) w ∙ by (look none) laws.none_filled) i; entries = [] }
-    where
-      by : (o : Option Kept) → is_some o ≡ true → entry_of none_set (option_map forgotten o) ≡ reset (entry_of none_set o)
-      by None q = absurd (true≢false (sym q))
-      by (Some k) q = refl

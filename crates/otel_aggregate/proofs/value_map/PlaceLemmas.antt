@@ -2,7 +2,7 @@
 use Rattle.std.proofs.Common.{ℕ, ◌-◌, ◌^◌, ◌<◌, ◌≡◌, List, [], ◌∷◌, ◌++◌, nat_lt, Bool, true, false, cond, not, ◌||◌, Option, Some, None, append-nil, refl, ap, arith, subst, sym, ◌∙◌}
 use Rattle.std.specs.Map.{lookup, keys_of}
 use Rattle.std.specs.Option.{IfSome}
-use Rattle.std.proofs.lemmas.Bool.{or_parts}
+use Rattle.std.proofs.lemmas.Bool.{cond_both, or_left, or_right, or_parts}
 use Rattle.std.proofs.lemmas.List.Folds.{list_any-append}
 use Rattle.otel_common.specs.Canonical.{canon}
 use Rattle.otel_common.specs.Equality.{set_eq}
@@ -26,12 +26,8 @@ pub record Placing (limit : ℕ) (empty : Fold) (s : AttributeSet) (entries afte
   pub state : after ≡ entries_with_place limit empty s entries
   pub goal : entry_for s after ≡ used
 
-or-true : (b : Bool) → (b || true) ≡ true
-or-true true = refl
-or-true false = refl
-
 has-last : (s : AttributeSet) (entries : List Entry) (e : Entry) → set_eq e.set s ≡ true → has s (entries ++ e ∷ []) ≡ true
-has-last s entries e q = list_any-append (is_of s) entries (e ∷ []) ∙ ap (λ b. has s entries || (b || false)) q ∙ or-true (has s entries)
+has-last s entries e q = list_any-append (is_of s) entries (e ∷ []) ∙ or_right (has s entries) _ (or_left _ false q)
 
 module _ (limit : ℕ) (empty : Fold) (s : AttributeSet) (entries : List Entry) where
   -- the set has an entry, or is empty
@@ -82,7 +78,7 @@ pub measured-at : (t after : Slotted) (limit : ℕ) (empty : Fold) (l : List Key
 measured-at t after limit empty l n v plan written aliases =
     let m : MapState = record { limit = limit; empty = empty; table = t.table } in
     let p : IsPlan t (nat_lt (number_counted t.table.entries) limit) l (At n) = plan (nat_lt (number_counted t.table.entries) limit) in
-    let named : Some (set_named n t.numbers) ≡ Some (canon l) = (plan true).pending ∙ ap (λ b. Some (cond b (canon l) over_set)) (or-true (is_placed (canon l) t.table.entries)) in
+    let named : Some (set_named n t.numbers) ≡ Some (canon l) = (plan true).pending ∙ ap (λ b. Some (cond b (canon l) over_set)) (or_right (is_placed (canon l) t.table.entries) true refl) in
     let same : set_named n t.numbers ≡ canon l = cc in
     let there = p.sound true refl in
     let number : number_of (canon l) t.numbers ≡ Some n = subst (λ s. number_of s t.numbers ≡ Some n) same there.0 in
@@ -202,11 +198,7 @@ nothing-left few ns (New set list) e = absurd (cc)
 
 -- ======== handles ========
 few-push : (x : AttributeSet) (es : List Entry) (e : Entry) (n : ℕ) → 0 < n → e.handles ≡ 0 → handles_in x es < n → handles_in x (es ++ e ∷ []) < n
-few-push x [] e n some none h = by (is_of x e)
-  where
-    by : (b : Bool) → cond b e.handles 0 < n
-    by true = omega (arith, none)
-    by false = some
+few-push x [] e n some none h = cond_both (is_of x e) e.handles 0 (λ m. m < n) (λ q. omega (arith, none)) (λ q. some)
 few-push x (r ∷ rs) e n some none h = by (is_of x r) h (few-push x rs e n some none)
   where
     by : (b : Bool) → cond b r.handles (handles_in x rs) < n → (handles_in x rs < n → handles_in x (rs ++ e ∷ []) < n) → cond b r.handles (handles_in x (rs ++ e ∷ [])) < n

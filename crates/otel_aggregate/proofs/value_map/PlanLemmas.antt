@@ -2,7 +2,9 @@
 use Rattle.std.proofs.Common.{◌≡◌, Bool, true, false, cond, not, ◌||◌, ◌&&◌, List, [], ◌∷◌, Option, Some, None, is_some, ℕ, refl, sym, ap, subst, ◌∙◌, true≢false}
 use Rattle.std.specs.Map.{lookup, keys_of}
 use Rattle.std.specs.Option.{IfSome}
+use Rattle.std.specs.Prelude.{IsTrue}
 use Rattle.std.specs.Set.{is_member}
+use Rattle.std.proofs.lemmas.Bool.{and_right, or_parts}
 use Rattle.std.proofs.lemmas.Map.Made.{is_some-lookup}
 use Rattle.otel_common.specs.Canonical.{canon}
 use Rattle.otel_common.specs.Equality.{set_eq}
@@ -23,6 +25,10 @@ use Rattle.otel_aggregate.proofs.value_map.KeyedLemmas.{same_set, same_number}
 used-new : (few : Bool) (s : AttributeSet) (es : List Entry) → set_eq s none_set ≡ false → has s es ≡ false → used_by few s es ≡ cond few s over_set
 used-new few s es some away = rw (some, away) refl
 
+-- past the limit no list is added
+unadmitted : (t : Slotted) (l : List KeyValue) → cond ((not (set_eq (canon l) none_set) && (not (has (canon l) t.table.entries) && false)) && not (set_eq (canon l) l)) (l ∷ []) [] ≡ []
+unadmitted t l = ap (λ b. cond (b && not (set_eq (canon l) l)) (l ∷ []) []) (and_right _ _ (and_right _ false refl))
+
 -- one without attributes
 pub plan-empty : (t : Slotted) (few : Bool) (l : List KeyValue) → set_eq l none_set ≡ true → IsPlan t few l (At t.numbers.none)
 plan-empty t few l e =
@@ -38,10 +44,7 @@ plan-empty t few l e =
 
 -- none of the three
 or-none : (a b c : Bool) → (a || (b || c)) ≡ false → (a ≡ false) × (b ≡ false) × (c ≡ false)
-or-none true b c e = absurd (true≢false e)
-or-none false true c e = absurd (true≢false e)
-or-none false false true e = absurd (true≢false e)
-or-none false false false e = (refl, refl, refl)
+or-none a b c e = let some = or_parts a (b || c) e in let others = or_parts b c some.1 in (some.0, others.0, others.1)
 
 lacking : (o : Option ℕ) → is_some o ≡ false → o ≡ None
 lacking None e = refl
@@ -74,15 +77,10 @@ module _ (t : Slotted) (l : List KeyValue) (unled : leads l t ≡ false) (away :
       let at : IsOverflow few t.table.entries t.numbers n = subst (λ (o : Option ℕ). IfSome o (IsOverflow few t.table.entries t.numbers)) is h in
       record {
         pending = ap Some (at.2.named ∙ ap (λ b. cond b (canon l) over_set) (sym at.0) ∙ sym (used-new few (canon l) t.table.entries bare away));
-        spelling = sym (ap (λ b. cond ((not (set_eq (canon l) none_set) && (not (has (canon l) t.table.entries) && b)) && not (set_eq (canon l) l)) (l ∷ []) []) at.0 ∙ none (not (set_eq (canon l) none_set)) (not (has (canon l) t.table.entries)));
+        spelling = sym (ap (λ b. cond ((not (set_eq (canon l) none_set) && (not (has (canon l) t.table.entries) && b)) && not (set_eq (canon l) l)) (l ∷ []) []) at.0 ∙ unadmitted t l);
         away = λ e. away;
         sound = λ room ready. (ap (λ s. number_of s t.numbers) at.2.named ∙ at.2.number, ap (λ s. is_placed s t.table.entries) at.2.named ∙ at.1);
       }
-    where
-      none : (a b : Bool) → cond ((a && (b && false)) && not (set_eq (canon l) l)) (l ∷ []) [] ≡ []
-      none true true = refl
-      none true false = refl
-      none false b = refl
 
   module _ (absent : lookup (set_eq (canon l)) t.numbers.sets ≡ None) where
     unaliased : lookup (set_eq l) t.aliases ≡ None
@@ -91,32 +89,25 @@ module _ (t : Slotted) (l : List KeyValue) (unled : leads l t ≡ false) (away :
     new : IsNew t.numbers.sets (canon l)
     new = record { absent = absent; canonical = canon-canon l; some = bare }
 
+    -- a plan for a new set, by the list that it adds
+    plan-new : (few : Bool) (set : AttributeSet) (o : Option (List KeyValue)) → set ≡ canon l → list_of o ≡ cond ((not (set_eq (canon l) none_set) && (not (has (canon l) t.table.entries) && few)) && not (set_eq (canon l) l)) (l ∷ []) []
+        → IsSpelling t.aliases (canon l) o → (IsTrue (is_some o) → IsTrue few) → IsPlan t few l (New set o)
+    plan-new few set o is adds spelling admitted = record {
+      pending = ap Some (ap (λ s. cond few s over_set) is ∙ sym (used-new few (canon l) t.table.entries bare away));
+      spelling = adds;
+      away = λ e. away;
+      sound = λ room ready. subst (λ s. IsReady t few room s o) (sym is) (record { new = new; absent = away; spelling = spelling; admitted = admitted; ready = ready });
+    }
+
     -- it is its own set
     pub plan-own : (few : Bool) (set : AttributeSet) → set ≡ canon l → set_eq (canon l) l ≡ true → IsPlan t few l (New set None)
-    plan-own few set is own = record {
-      pending = ap Some (ap (λ s. cond few s over_set) is ∙ sym (used-new few (canon l) t.table.entries bare away));
-      spelling = sym (ap (λ b. cond ((not (set_eq (canon l) none_set) && (not (has (canon l) t.table.entries) && few)) && not b) (l ∷ []) []) own ∙ ap (λ b. cond b (l ∷ []) []) (none (not (set_eq (canon l) none_set) && (not (has (canon l) t.table.entries) && few))));
-      away = λ e. away;
-      sound = λ room ready. subst (λ s. IsReady t few room s None) (sym is) (record { new = new; absent = away; spelling = tt; admitted = λ h. absurd (true≢false (sym h)); ready = ready });
-    }
-      where
-        none : (b : Bool) → (b && false) ≡ false
-        none true = refl
-        none false = refl
+    plan-own few set is own = plan-new few set None is
+        (sym (ap (λ b. cond ((not (set_eq (canon l) none_set) && (not (has (canon l) t.table.entries) && few)) && not b) (l ∷ []) []) own ∙ ap (λ b. cond b (l ∷ []) []) (and_right _ false refl)))
+        tt (λ h. absurd (true≢false (sym h)))
 
     -- past the limit
     pub plan-past : (set : AttributeSet) → set ≡ canon l → IsPlan t false l (New set None)
-    plan-past set is = record {
-      pending = ap Some (sym (used-new false (canon l) t.table.entries bare away));
-      spelling = sym (ap (λ b. cond (b && not (set_eq (canon l) l)) (l ∷ []) []) (none_few (not (set_eq (canon l) none_set)) (not (has (canon l) t.table.entries))));
-      away = λ e. away;
-      sound = λ room ready. subst (λ s. IsReady t false room s None) (sym is) (record { new = new; absent = away; spelling = tt; admitted = λ h. absurd (true≢false (sym h)); ready = ready });
-    }
-      where
-        none_few : (a b : Bool) → (a && (b && false)) ≡ false
-        none_few true true = refl
-        none_few true false = refl
-        none_few false b = refl
+    plan-past set is = plan-new false set None is (sym (unadmitted t l)) tt (λ h. absurd (true≢false (sym h)))
 
     spelled : (b : Bool) → set_eq (canon l) l ≡ b → (o : Option (List KeyValue)) → o ≡ cond b None (Some l) → IsSpelling t.aliases (canon l) o
     spelled true q o e = subst (IsSpelling t.aliases (canon l)) (sym e) tt
@@ -130,12 +121,7 @@ module _ (t : Slotted) (l : List KeyValue) (unled : leads l t ≡ false) (away :
     pub plan-admitted : (set : AttributeSet) (o : Option (List KeyValue)) → set ≡ canon l → o ≡ cond (set_eq set l) None (Some l) → IsPlan t true l (New set o)
     plan-admitted set o is e =
         let f : o ≡ cond (set_eq (canon l) l) None (Some l) = e ∙ ap (λ s. cond (set_eq s l) None (Some l)) is in
-        record {
-          pending = ap Some (is ∙ sym (used-new true (canon l) t.table.entries bare away));
-          away = λ e. away;
-          spelling = listed (set_eq (canon l) l) o f ∙ (λ i. cond ((not (sym bare i) && (not (sym away i) && true)) && not (set_eq (canon l) l)) (l ∷ []) []);
-          sound = λ room ready. subst (λ s. IsReady t true room s o) (sym is) (record { new = new; absent = away; spelling = spelled (set_eq (canon l) l) refl o f; admitted = λ h. refl; ready = ready });
-        }
+        plan-new true set o is (listed (set_eq (canon l) l) o f ∙ (λ i. cond ((not (sym bare i) && (not (sym away i) && true)) && not (set_eq (canon l) l)) (l ∷ []) [])) (spelled (set_eq (canon l) l) refl o f) (λ h. refl)
 
 -- it doesn't depend on the room of the table itself
 pub sound-same : (t n : Slotted) (few room : Bool) (p : Pending) → n.table ≡ t.table → n.numbers ≡ t.numbers → n.aliases ≡ t.aliases → IsSound t few room p → IsSound n few room p

@@ -12,36 +12,30 @@ use Rattle.otel_aggregate.specs.value_map.Slots.{Kept, Look, Keyed, entry_of, en
 use Rattle.otel_aggregate.specs.value_map.Keyed.{Fits, IsConsistent}
 use Rattle.otel_aggregate.specs.value_map.Numbers.{number_of, handles_in, handles_at}
 use Rattle.otel_aggregate.proofs.value_map.TableLemmas.{shown_of}
-use Rattle.otel_aggregate.proofs.value_map.KeyedLemmas.{same_set, set_eq-flip, entry-set}
+use Rattle.otel_aggregate.proofs.value_map.KeyedLemmas.{same_set, set_eq-flip, entry-set, lookup-all}
 
 hit : (s : AttributeSet) (look : Look) (x : Keyed) → set_eq (entry_at look x).set s ≡ set_eq s x.0
 hit s look x = ap (λ t. set_eq t s) (entry-set x.0 (look x.1)) ∙ set_eq-flip x.0 s
 
--- a set without entry has no point
-pub fold_in-absent : (s : AttributeSet) (look : Look) (es : List Keyed) → lookup (set_eq s) es ≡ None → fold_in (shown_of true (map (entry_at look) es)) s ≡ None
-fold_in-absent s look [] e = refl
-fold_in-absent s look (x ∷ es) e = by (set_eq s x.0) refl e (fold_in-absent s look es)
+-- the point of a set is that of its entry, if it has one
+fold_in-lookup : (s : AttributeSet) (look : Look) (es : List Keyed) → fold_in (shown_of true (map (entry_at look) es)) s ≡ option_map (λ n. (entry_at look (s, n)).fold) (lookup (set_eq s) es)
+fold_in-lookup s look [] = refl
+fold_in-lookup s look (x ∷ es) = ap (λ b. cond b (Some (entry_at look x).fold) (fold_in (shown_of true (map (entry_at look) es)) s)) (hit s look x) ∙ by (set_eq s x.0) refl (fold_in-lookup s look es)
   where
-    by : (b : Bool) → set_eq s x.0 ≡ b → cond b (Some x.1) (lookup (set_eq s) es) ≡ None → (lookup (set_eq s) es ≡ None → fold_in (shown_of true (map (entry_at look) es)) s ≡ None)
-        → cond (set_eq (entry_at look x).set s) (Some (entry_at look x).fold) (fold_in (shown_of true (map (entry_at look) es)) s) ≡ None
-    by true q r ih = absurd (cc)
-    by false q r ih = ap (λ b. cond b (Some (entry_at look x).fold) (fold_in (shown_of true (map (entry_at look) es)) s)) (hit s look x ∙ q) ∙ ih r
+    by : (b : Bool) → set_eq s x.0 ≡ b → fold_in (shown_of true (map (entry_at look) es)) s ≡ option_map (λ n. (entry_at look (s, n)).fold) (lookup (set_eq s) es)
+        → cond b (Some (entry_at look x).fold) (fold_in (shown_of true (map (entry_at look) es)) s) ≡ option_map (λ n. (entry_at look (s, n)).fold) (cond b (Some x.1) (lookup (set_eq s) es))
+    by true q ih = ap (λ (t : AttributeSet). Some (entry_at look (t, x.1)).fold) (sym (same_set s x.0 q))
+    by false q ih = ih
 
--- a set with an entry has that one's
+pub fold_in-absent : (s : AttributeSet) (look : Look) (es : List Keyed) → lookup (set_eq s) es ≡ None → fold_in (shown_of true (map (entry_at look) es)) s ≡ None
+fold_in-absent s look es e = fold_in-lookup s look es ∙ ap (option_map (λ n. (entry_at look (s, n)).fold)) e
+
 pub fold_in-at : (s : AttributeSet) (look : Look) (es : List Keyed) (n : ℕ) → lookup (set_eq s) es ≡ Some n → AllByRecursion (Fits look) es → fold_in (shown_of true (map (entry_at look) es)) s ≡ option_map (λ (k : Kept). k.fold) (look n)
-fold_in-at s look [] n e h = absurd (cc)
-fold_in-at s look (x ∷ es) n e h = by (set_eq s x.0) refl e (λ r. fold_in-at s look es n r h.1)
+fold_in-at s look es n e h = fold_in-lookup s look es ∙ ap (option_map (λ n. (entry_at look (s, n)).fold)) e ∙ filled (look n) (lookup-all (Fits look) s es n e h).filled
   where
-    filled : (o : Option Kept) → is_some o ≡ true → Some (entry_of x.0 o).fold ≡ option_map (λ (k : Kept). k.fold) o
+    filled : (o : Option Kept) → is_some o ≡ true → Some (entry_of s o).fold ≡ option_map (λ (k : Kept). k.fold) o
     filled None q = absurd (true≢false (sym q))
     filled (Some k) q = refl
-
-    by : (b : Bool) → set_eq s x.0 ≡ b → cond b (Some x.1) (lookup (set_eq s) es) ≡ Some n → (lookup (set_eq s) es ≡ Some n → fold_in (shown_of true (map (entry_at look) es)) s ≡ option_map (λ (k : Kept). k.fold) (look n))
-        → cond (set_eq (entry_at look x).set s) (Some (entry_at look x).fold) (fold_in (shown_of true (map (entry_at look) es)) s) ≡ option_map (λ (k : Kept). k.fold) (look n)
-    by true q r ih =
-        let k : x.1 ≡ n = cc in
-        ap (λ b. cond b (Some (entry_at look x).fold) (fold_in (shown_of true (map (entry_at look) es)) s)) (hit s look x ∙ q) ∙ filled (look x.1) h.0.filled ∙ ap (λ m. option_map (λ (k : Kept). k.fold) (look m)) k
-    by false q r ih = ap (λ b. cond b (Some (entry_at look x).fold) (fold_in (shown_of true (map (entry_at look) es)) s)) (hit s look x ∙ q) ∙ ih r
 
 -- no key is the empty set
 none-absent : (look : Look) (s : AttributeSet) (es : List Keyed) → AllByRecursion (Fits look) es → set_eq s none_set ≡ true → lookup (set_eq s) es ≡ None
@@ -75,36 +69,30 @@ module _ (look : Look) (none : ℕ) (es gs : List Keyed) (laws : IsConsistent lo
       ∙ some-first (entry_at look (none_set, none)).updated (entry_at look (none_set, none)).fold (fold_in (shown_of true (map (entry_at look) es)) s)
 
 -- the handles in the slot of a set are those of its entry
-handles-among : (s : AttributeSet) (look : Look) (es : List Keyed) (n : ℕ) → lookup (set_eq s) es ≡ Some n → AllByRecursion (Fits look) es → option_map (λ (k : Kept). k.handles) (look n) ≡ Some (handles_in s (map (entry_at look) es))
-handles-among s look [] n e h = absurd (cc)
-handles-among s look (x ∷ es) n e h = by (set_eq s x.0) refl e (λ r. handles-among s look es n r h.1)
+handles-among : (s : AttributeSet) (look : Look) (es : List Keyed) (n : ℕ) → lookup (set_eq s) es ≡ Some n → handles_in s (map (entry_at look) es) ≡ (entry_at look (s, n)).handles
+handles-among s look [] n e = absurd (cc)
+handles-among s look (x ∷ es) n e = ap (λ b. cond b (entry_at look x).handles (handles_in s (map (entry_at look) es))) (hit s look x) ∙ by (set_eq s x.0) refl e (handles-among s look es n)
   where
-    filled : (o : Option Kept) → is_some o ≡ true → option_map (λ (k : Kept). k.handles) o ≡ Some (entry_of x.0 o).handles
-    filled None q = absurd (true≢false (sym q))
-    filled (Some k) q = refl
-
-    by : (b : Bool) → set_eq s x.0 ≡ b → cond b (Some x.1) (lookup (set_eq s) es) ≡ Some n → (lookup (set_eq s) es ≡ Some n → option_map (λ (k : Kept). k.handles) (look n) ≡ Some (handles_in s (map (entry_at look) es)))
-        → option_map (λ (k : Kept). k.handles) (look n) ≡ Some (cond (set_eq (entry_at look x).set s) (entry_at look x).handles (handles_in s (map (entry_at look) es)))
-    by true q r ih =
-        let k : x.1 ≡ n = cc in
-        ap (λ m. option_map (λ (k : Kept). k.handles) (look m)) (sym k) ∙ filled (look x.1) h.0.filled ∙ ap (λ b. Some (cond b (entry_at look x).handles (handles_in s (map (entry_at look) es)))) (sym (hit s look x ∙ q))
-    by false q r ih = ih r ∙ ap (λ b. Some (cond b (entry_at look x).handles (handles_in s (map (entry_at look) es)))) (sym (hit s look x ∙ q))
+    by : (b : Bool) → set_eq s x.0 ≡ b → cond b (Some x.1) (lookup (set_eq s) es) ≡ Some n → (lookup (set_eq s) es ≡ Some n → handles_in s (map (entry_at look) es) ≡ (entry_at look (s, n)).handles)
+        → cond b (entry_at look x).handles (handles_in s (map (entry_at look) es)) ≡ (entry_at look (s, n)).handles
+    by true q r ih = let k : x.1 ≡ n = cc in λ i. (entry_at look (sym (same_set s x.0 q) i, k i)).handles
+    by false q r ih = ih r
 
 pub handles-kept : (look : Look) (none : ℕ) (es gs : List Keyed) (s : AttributeSet) (n : ℕ) → IsConsistent look none es gs → number_of s (record { none = none; sets = es }) ≡ Some n → option_map (λ (k : Kept). k.handles) (look n) ≡ Some (handles_at s (table_at look none es))
 handles-kept look none es gs s n laws e = by (set_eq s none_set) refl e
   where
-    filled : (o : Option Kept) → is_some o ≡ true → option_map (λ (k : Kept). k.handles) o ≡ Some (entry_of none_set o).handles
+    filled : (o : Option Kept) → is_some o ≡ true → option_map (λ (k : Kept). k.handles) o ≡ Some (entry_of s o).handles
     filled None q = absurd (true≢false (sym q))
     filled (Some k) q = refl
 
-    by : (b : Bool) → set_eq s none_set ≡ b → cond b (Some none) (lookup (set_eq s) es) ≡ Some n
-        → option_map (λ (k : Kept). k.handles) (look n) ≡ Some (cond (set_eq (entry_at look (none_set, none)).set s) (entry_at look (none_set, none)).handles (handles_in s (map (entry_at look) es)))
+    first : (b : Bool) → set_eq s none_set ≡ b → Some (cond b (entry_at look (none_set, none)).handles (handles_in s (map (entry_at look) es))) ≡ Some (handles_at s (table_at look none es))
+    first b q = ap (λ c. Some (cond c (entry_at look (none_set, none)).handles (handles_in s (map (entry_at look) es)))) (sym (hit s look (none_set, none) ∙ q))
+
+    by : (b : Bool) → set_eq s none_set ≡ b → cond b (Some none) (lookup (set_eq s) es) ≡ Some n → option_map (λ (k : Kept). k.handles) (look n) ≡ Some (handles_at s (table_at look none es))
     by true q r =
         let k : none ≡ n = cc in
-        ap (λ m. option_map (λ (k : Kept). k.handles) (look m)) (sym k) ∙ filled (look none) laws.none_filled
-        ∙ ap (λ b. Some (cond b (entry_at look (none_set, none)).handles (handles_in s (map (entry_at look) es)))) (sym (hit s look (none_set, none) ∙ q))
-    by false q r =
-        handles-among s look es n r laws.fits ∙ ap (λ b. Some (cond b (entry_at look (none_set, none)).handles (handles_in s (map (entry_at look) es)))) (sym (hit s look (none_set, none) ∙ q))
+        filled (look n) (ap (λ m. is_some (look m)) (sym k) ∙ laws.none_filled) ∙ (λ i. Some (entry_at look (same_set s none_set q i, sym k i)).handles) ∙ first true q
+    by false q r = filled (look n) (lookup-all (Fits look) s es n r laws.fits).filled ∙ ap Some (sym (handles-among s look es n r)) ∙ first false q
 
 -- where no set stands twice, one has no key before its own
 pub absent-before : (es : List Keyed) (s : AttributeSet) (rest : List AttributeSet) → IsDistinct set_eq (keys_of es ++ s ∷ rest) → lookup (set_eq s) es ≡ None

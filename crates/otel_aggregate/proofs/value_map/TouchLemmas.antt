@@ -12,6 +12,7 @@ use Rattle.otel_model_stream.specs.Entries.{Entry, on, is_of, at_entry, number_c
 use Rattle.otel_aggregate.specs.value_map.Slots.{Kept, Look, SameLook, Keyed, at_slot, entry_of, entry_at, table_at}
 use Rattle.otel_aggregate.specs.value_map.Keyed.{Fits, IsConsistent, is_lasting, is_counted}
 use Rattle.otel_aggregate.specs.value_map.Numbers.{number_of, is_number}
+use Rattle.otel_aggregate.proofs.All.{all-map, all-each}
 use Rattle.otel_aggregate.proofs.value_map.TableLemmas.{counted_cons}
 use Rattle.otel_aggregate.proofs.value_map.KeyedLemmas.{same_set, set_eq-flip, same_number, entry-set, lookup-away, entries-same, fits-as}
 
@@ -27,36 +28,25 @@ module _ (f : Kept → Kept) (g : Entry → Entry) (as_entry : (s : AttributeSet
       by None q = absurd (true≢false (sym q))
       by (Some k) q = as_entry s k
 
-  fit-touched : (m : ℕ) → (is_some (other m) ≡ is_some (look m)) × (is_lasting (other m) ≡ is_lasting (look m))
-  fit-touched m = (ap is_some (w m) ∙ (by (nat_eq n m) (look m)).0, ap is_lasting (w m) ∙ (by (nat_eq n m) (look m)).1)
+  -- what the change keeps
+  same-touched : {X : Type 0} (p : Option Kept → X) → ((k : Kept) → p (Some (f k)) ≡ p (Some k)) → (m : ℕ) → p (other m) ≡ p (look m)
+  same-touched p same m = ap p (w m) ∙ by (nat_eq n m) (look m)
     where
-      by : (b : Bool) (o : Option Kept) → (is_some (cond b (option_map f o) o) ≡ is_some o) × (is_lasting (cond b (option_map f o) o) ≡ is_lasting o)
-      by true None = (refl, refl)
-      by true (Some k) = (refl, lasts k)
-      by false o = (refl, refl)
-
-  count-touched : (m : ℕ) → is_counted (other m) ≡ is_counted (look m)
-  count-touched m = ap is_counted (w m) ∙ by (nat_eq n m) (look m)
-    where
-      by : (b : Bool) (o : Option Kept) → is_counted (cond b (option_map f o) o) ≡ is_counted o
+      by : (b : Bool) (o : Option Kept) → p (cond b (option_map f o) o) ≡ p o
       by true None = refl
-      by true (Some k) = counts k
+      by true (Some k) = same k
       by false o = refl
-
-  fits-touched : (es : List Keyed) → AllByRecursion (Fits look) es → AllByRecursion (Fits other) es
-  fits-touched [] h = tt
-  fits-touched (x ∷ es) h = (fits-as look other x (fit-touched x.1).0 (fit-touched x.1).1 h.0, fits-touched es h.1)
 
   pub kept-touched : (none : ℕ) (es gs : List Keyed) → IsConsistent look none es gs → IsConsistent other none es gs
   kept-touched none es gs laws = record {
-    none_filled = (fit-touched none).0 ∙ laws.none_filled;
-    none_lasts = (fit-touched none).1 ∙ laws.none_lasts;
-    none_uncounted = count-touched none ∙ laws.none_uncounted;
+    none_filled = same-touched is_some (λ k. refl) none ∙ laws.none_filled;
+    none_lasts = same-touched is_lasting lasts none ∙ laws.none_lasts;
+    none_uncounted = same-touched is_counted counts none ∙ laws.none_uncounted;
     apart = laws.apart;
     unique = laws.unique;
     linked = laws.linked;
     single = laws.single;
-    fits = fits-touched es laws.fits;
+    fits = all-each (Fits look) (Fits other) (λ x h. fits-as look other x (same-touched is_some (λ k. refl) x.1) (same-touched is_lasting lasts x.1) h) es laws.fits;
   }
 
   -- where no key is of the set, a change at it changes nothing
@@ -65,11 +55,6 @@ module _ (f : Kept → Kept) (g : Entry → Entry) (as_entry : (s : AttributeSet
   on-none s (x ∷ es) h =
       let miss : is_of s (entry_at look x) ≡ false = ap (λ t. set_eq t s) (entry-set x.0 (look x.1)) ∙ set_eq-flip x.0 s ∙ h.0 in
       λ i. cond (miss i) (g (entry_at look x)) (entry_at look x) ∷ on-none s es h.1 i
-
-  -- no key is the empty set
-  no_none : (es : List Keyed) → AllByRecursion (Fits look) es → AllByRecursion (λ k. set_eq none_set k ≡ false) (keys_of es)
-  no_none [] h = tt
-  no_none (x ∷ es) h = (set_eq-flip none_set x.0 ∙ h.0.some, no_none es h.1)
 
   entries-touched : (s : AttributeSet) (es : List Keyed) → lookup (set_eq s) es ≡ Some n → IsDistinct nat_eq (values_of es) → IsDistinct set_eq (keys_of es) → AllByRecursion (Fits look) es
       → map (entry_at other) es ≡ map (on s g) (map (entry_at look) es)
@@ -104,7 +89,7 @@ module _ (f : Kept → Kept) (g : Entry → Entry) (as_entry : (s : AttributeSet
           let here : entry_of none_set (other none) ≡ g (entry_of none_set (look none)) = subst (λ m. entry_of none_set (other m) ≡ g (entry_of none_set (look m))) k (entry-touched none_set (ap (λ m. is_some (look m)) k ∙ laws.none_filled)) in
           let hit : is_of s (entry_at look (none_set, none)) ≡ true = ap (λ t. set_eq t s) (entry-set none_set (look none)) ∙ set_eq-flip none_set s ∙ q in
           let away : AllByRecursion (λ y. nat_eq n y ≡ false) (values_of es) = subst (λ m. AllByRecursion (λ y. nat_eq m y ≡ false) (values_of es)) (sym k) (IsDistinct-head nat_eq none (values_of es) laws.apart) in
-          let others : AllByRecursion (λ y. set_eq s y ≡ false) (keys_of es) = subst (λ t. AllByRecursion (λ y. set_eq t y ≡ false) (keys_of es)) (sym is) (no_none es laws.fits) in
+          let others : AllByRecursion (λ y. set_eq s y ≡ false) (keys_of es) = subst (λ t. AllByRecursion (λ y. set_eq t y ≡ false) (keys_of es)) (sym is) (all-map (Fits look) (λ k. set_eq none_set k ≡ false) (λ (x : Keyed). x.0) (λ x fit. set_eq-flip none_set x.0 ∙ fit.some) es laws.fits) in
           λ i. record {
             none = (here ∙ ap (λ b. cond b (g (entry_at look (none_set, none))) (entry_at look (none_set, none))) (sym hit)) i;
             entries = (entries-same look other n es away elsewhere ∙ sym (on-none s es others)) i;
@@ -134,10 +119,5 @@ module _ (f : Kept → Kept) (g : Entry → Entry) (as_entry : (s : AttributeSet
   counted-touched [] = refl
   counted-touched (x ∷ es) =
       counted_cons (entry_at other x) (map (entry_at other) es)
-      ∙ (λ i. cond ((ap (λ o. (entry_of x.0 o).counted) (w x.1) ∙ by (nat_eq n x.1) (look x.1)) i) 1 0 + counted-touched es i)
+      ∙ (λ i. cond (same-touched (λ o. (entry_of x.0 o).counted) counts x.1 i) 1 0 + counted-touched es i)
       ∙ sym (counted_cons (entry_at look x) (map (entry_at look) es))
-    where
-      by : (b : Bool) (o : Option Kept) → (entry_of x.0 (cond b (option_map f o) o)).counted ≡ (entry_of x.0 o).counted
-      by true None = refl
-      by true (Some k) = counts k
-      by false o = refl

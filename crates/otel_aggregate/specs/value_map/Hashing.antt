@@ -14,25 +14,19 @@ unseeded = record { seed = 0x243f_6a88_85a3_08d3 }
 abbrev pub after_one : ℕ → ℕ → ℕ
 after_one state byte = cond (byte == 255) state ((bit_xor state byte * 0x9e37_79b9_7f4a_7c15) % 2 ^ 64)
 
--- the state after up to three bytes, read as one number
-abbrev pub after_few : ℕ → List ℕ → ℕ
-after_few state bytes = folded_multiply (bit_xor state (read_short bytes)) (bit_xor 0x9e37_79b9_7f4a_7c15 (2 * length bytes))
-
--- the state after four to eight bytes: the first four and the last four, which may overlap
-abbrev pub after_some : ℕ → List ℕ → ℕ
-after_some state bytes = folded_multiply (bit_xor (read_u32 bytes 0) ((state + length bytes) % 2 ^ 64)) (bit_xor (read_u32 bytes (length bytes - 4)) 0x9e37_79b9_7f4a_7c15)
-
 -- the state after more bytes: blocks of sixteen, then the last sixteen, which may overlap the last block; of fewer than
 -- sixteen, the first eight and the last eight
 abbrev pub after_many : ℕ → List ℕ → ℕ
 after_many state bytes = mix bytes (mix_blocks bytes ((state + length bytes) % 2 ^ 64) ((length bytes - 1) / 16)) (length bytes - 16) (length bytes - 8)
 
--- the state after these bytes
+-- the state after these bytes: of four to eight, the first four and the last four, which may overlap; fewer are read as
+-- one number
 abbrev pub after : ℕ → List ℕ → ℕ
 after state bytes =
     cond (nat_lt 8 (length bytes)) (after_many state bytes)
-    (cond (nat_le 4 (length bytes)) (after_some state bytes)
-    (cond (length bytes == 1) (after_one state (slice_index bytes 0)) (after_few state bytes)))
+    (cond (nat_le 4 (length bytes)) (folded_multiply (bit_xor (read_u32 bytes 0) ((state + length bytes) % 2 ^ 64)) (bit_xor (read_u32 bytes (length bytes - 4)) 0x9e37_79b9_7f4a_7c15))
+    (cond (length bytes == 1) (after_one state (slice_index bytes 0))
+    (folded_multiply (bit_xor state (read_short bytes)) (bit_xor 0x9e37_79b9_7f4a_7c15 (2 * length bytes)))))
 
 -- the hasher after one write
 unfoldable pub write : SetHasher → List ℕ → SetHasher

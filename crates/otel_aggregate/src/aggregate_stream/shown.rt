@@ -1,6 +1,6 @@
 //! What collections give of a stream.
 
-ghost use Rattle.std.specs.Prelude.{◌≡◌, true, cond, map, Some, None, IfOk, IsOkUnless};
+ghost use Rattle.std.specs.Prelude.{◌≡◌, ◌&&◌, true, cond, map, Some, None, IfOk, IsOkUnless};
 ghost use Rattle.std.specs.Option.{option_map};
 ghost use Rattle.otel_common.specs.declared.metrics.Temporality.TheVariants as shown;
 ghost use Rattle.otel_data.specs.declared.points.SumDataPoint.{SumDataPoint as SumValue};
@@ -10,7 +10,7 @@ ghost use Rattle.otel_model_stream.specs.Maps.{draining_points};
 ghost use Rattle.otel_model_stream.specs.Observed.{value_before};
 ghost use Rattle.otel_model_stream.specs.Totals.{value_of};
 ghost use Rattle.otel_model_stream.specs.Data.{sum_point, gauge_point, histogram_point};
-ghost use Rattle.otel_aggregate.specs.Any.{Spreads as SpreadForm, form_of, metrics_now, observed_in};
+ghost use Rattle.otel_aggregate.specs.Any.{Sums as SumForm, Spreads as SpreadForm, form_of, metrics_now, observed_in};
 ghost use Rattle.otel_aggregate.specs.AnyKept.{fold_in};
 ghost use Rattle.otel_aggregate.specs.Data.{sum_data, gauge_data, histogram_data};
 ghost use Rattle.otel_aggregate.specs.Kept.{IsWithinIfSome, IsKept, any_data};
@@ -45,39 +45,14 @@ fn from_wide_if_some<T: Number + Drop>(value: Option<i128>) -> Option<T>
     }
 }
 
-/// The 64 bits of the value that was reported for a set, or 0 if it had no point.
-fn bits_in(reported: &ValueMap<AnyAggregator>, attributes: &[KeyValue]) -> u64
-    ensures { result ≡ value_before (draining_points reported.now.state) attributes.now }
-{
-    match reported.get(attributes) {
-        None => 0,
-        Some(last) => last.bits(),
-    }
-}
-
-/// The 64 bits of a set's value, less the set's value in `reported` if that is given.
-fn shown_bits(
-    reported: Option<&ValueMap<AnyAggregator>>,
-    attributes: &[KeyValue],
-    kept: &AnyAggregator,
-) -> u64
-    ensures set { (since_reported (option_map (λ before. draining_points before.now.state) reported.entry) (attributes.now, fold_in kept.now)).0 ≡ attributes.now }
-    ensures value { value_of (since_reported (option_map (λ before. draining_points before.now.state) reported.entry) (attributes.now, fold_in kept.now)).1 ≡ result }
-{
-    match reported {
-        None => kept.bits(),
-        Some(reported) => kept.bits().subtract(bits_in(reported, attributes)),
-    }
-}
-
-/// Makes the points of observed sums, each less its set's value in `reported` if that is given.
+/// Makes the points of sums, each less its set's value in `reported` if that is given.
 #[derive(Drop)]
-struct ObservedSumPoints<'a, T: Number + Drop> {
+struct SumPoints<'a, T: Number + Drop> {
     reported: Option<&'a ValueMap<AnyAggregator>>,
     of: PhantomData<T>,
 }
 
-impl<'a, T: Number + Drop> PointMaker<AnyAggregator> for ObservedSumPoints<'a, T> {
+impl<'a, T: Number + Drop> PointMaker<AnyAggregator> for SumPoints<'a, T> {
     type Point = SumDataPoint<T>;
 
     ghost Seen = { SumValue T };
@@ -88,43 +63,22 @@ impl<'a, T: Number + Drop> PointMaker<AnyAggregator> for ObservedSumPoints<'a, T
 
     ghost can_show = { λ _ _. Unit {0} };
 
-    fn point(
-        &self,
-        alloc: Global,
-        set: SharedItems<KeyValue>,
-        kept: &AnyAggregator,
-    ) -> Result<SumDataPoint<T>, Fault> {
-        let bits = shown_bits(self.reported, set.as_slice(), kept);
-        Ok(SumDataPoint::new(set, Items::from(Vec::new(alloc)), T::from_bits(bits)))
-    }
-}
-
-/// Makes the points of sums.
-#[derive(Drop)]
-struct SumPoints<T: Number + Drop> {
-    of: PhantomData<T>,
-}
-
-impl<T: Number + Drop> PointMaker<AnyAggregator> for SumPoints<T> {
-    type Point = SumDataPoint<T>;
-
-    ghost Seen = { SumValue T };
-
-    ghost seen = { λ made. made };
-
-    ghost shown = { λ _ p. sum_point T.of_bits T.of_wide p };
-
-    ghost can_show = { λ _ _. Unit {0} };
-
     #[inline(always)]
+    #[tactic(auto, using(crate::proofs::ObservedLemmas::value_before_none, crate::proofs::ObservedLemmas::value_before_some))]
     fn point(
         &self,
         alloc: Global,
         set: SharedItems<KeyValue>,
         kept: &AnyAggregator,
     ) -> Result<SumDataPoint<T>, Fault> {
-        let value = T::from_bits(kept.bits());
-        Ok(SumDataPoint::new(set, Items::from(Vec::new(alloc)), value))
+        let bits = match self.reported {
+            None => kept.bits(),
+            Some(reported) => {
+                let before = reported.get(set.as_slice()).map_or(0, |last| last.bits());
+                kept.bits().subtract(before)
+            }
+        };
+        Ok(SumDataPoint::new(set, Items::from(Vec::new(alloc)), T::from_bits(bits)))
     }
 }
 
@@ -212,20 +166,35 @@ fn shown_temporality(resets: bool) -> Temporality
 }
 
 impl AggregateStream {
-    /// What a collection at the moment `now`, in nanoseconds since 1970, gives of a sum.
+    /// What a collection at the moment `now`, in nanoseconds since 1970, gives of a sum or of observed sums.
     pub(crate) fn sum_data<T: Number + Drop>(
         &self,
         alloc: Global,
         now: u64,
     ) -> Result<SumData<T>, Fault>
-        ensures data { IfOk result (λ given. given ≡ sum_data T.of_bits T.of_wide now self.now.state) }
+        ensures sum { form_of self.now.state.aggregate ≡ SumForm → IfOk result (λ given. given ≡ sum_data T.of_bits T.of_wide now self.now.state) }
+        ensures observed { self.now.drains ≡ true → IfOk result (λ given. given ≡ observed_data T.of_bits T.of_wide now (observed_in self.now)) }
         ensures only_memory { IsOkUnless result Fault.OutOfMemory }
     {
-        let maker: SumPoints<T> = SumPoints { of: PhantomData };
-        let points = Items::from(self.map.shown(alloc, &maker, !self.resets)?);
+        let maker: SumPoints<T> = SumPoints {
+            reported: self.compared_with(),
+            of: PhantomData,
+        };
+        let every = self.reported.is_some() || !self.resets;
+        let points = Items::from(self.map.shown(alloc, &maker, every)?);
         let temporality = shown_temporality(self.resets);
         let is_monotonic = self.settings.is_monotonic();
         Ok(SumData::new(points, self.start, now, temporality, is_monotonic))
+    }
+
+    /// What observed sums reported, if points show differences from it.
+    fn compared_with(&self) -> Option<&ValueMap<AnyAggregator>>
+        ensures { option_map (λ before. draining_points before.now.state) result ≡ cond (self.now.drains && self.now.state.resets) (Some self.now.reported) None }
+    {
+        match &self.reported {
+            Some(reported) if self.resets => Some(reported),
+            _ => None,
+        }
     }
 
     /// What a collection at the moment `now`, in nanoseconds since 1970, gives of last values.
@@ -267,37 +236,6 @@ impl AggregateStream {
         Ok(HistogramData::new(points, self.start, now, temporality, has_sum))
     }
 
-    /// What a collection at the moment `now`, in nanoseconds since 1970, gives of observed sums.
-    pub(crate) fn observed_data<T: Number + Drop>(
-        &self,
-        alloc: Global,
-        now: u64,
-    ) -> Result<SumData<T>, Fault>
-        requires { self.now.drains ≡ true }
-        ensures data { IfOk result (λ given. given ≡ observed_data T.of_bits T.of_wide now (observed_in self.now)) }
-        ensures only_memory { IsOkUnless result Fault.OutOfMemory }
-    {
-        let maker: ObservedSumPoints<T> = ObservedSumPoints {
-            reported: self.compared_with(),
-            of: PhantomData,
-        };
-        let points = Items::from(self.map.shown(alloc, &maker, true)?);
-        let temporality = shown_temporality(self.resets);
-        let is_monotonic = self.settings.is_monotonic();
-        Ok(SumData::new(points, self.start, now, temporality, is_monotonic))
-    }
-
-    /// What observed sums reported, if points show differences from it.
-    fn compared_with(&self) -> Option<&ValueMap<AnyAggregator>>
-        requires { self.now.drains ≡ true }
-        ensures { option_map (λ before. draining_points before.now.state) result ≡ cond self.now.state.resets (Some self.now.reported) None }
-    {
-        match &self.reported {
-            Some(reported) if self.resets => Some(reported),
-            _ => None,
-        }
-    }
-
     /// What `points` gives, in this number type, which is the stream's.
     fn data<T: Number + Drop>(&self, alloc: Global, now: u64) -> Result<MetricData<T>, Fault>
         requires { self.now.is_signed ≡ T.is_signed }
@@ -305,7 +243,7 @@ impl AggregateStream {
         ensures only_memory { IsOkUnless result Fault.OutOfMemory }
     {
         if self.reported.is_some() {
-            return Ok(MetricData::Sum(self.observed_data(alloc, now)?));
+            return Ok(MetricData::Sum(self.sum_data(alloc, now)?));
         }
         match &self.settings {
             AnySettings::Sum { is_monotonic: _ } => {

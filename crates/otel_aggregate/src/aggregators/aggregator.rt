@@ -109,6 +109,7 @@ pub fn update_fold<A: Aggregator>(aggregator: &mut A, value: A::PreComputedValue
 }
 
 /// The law that, where an aggregator's meaning is the fold of some records, a reset makes it the fold of none.
+#[tactic(auto, using(crate::proofs::aggregators::FoldLaws::cleared_folded))]
 pub fn reset_fold<A: Aggregator>(aggregator: &mut A)
     ensures { (config : A.InitConfig) (samples : List Sample) → A.meaning aggregator.old ≡ fold_samples (A.empty config) samples
         → A.meaning aggregator.new ≡ fold_samples (A.empty config) [] }

@@ -57,36 +57,8 @@ fn greater_of<T: Number>(greatest: Option<T>, value: T) -> T
     }
 }
 
-/// The least value after one more value, if it is kept.
-fn least_with<T: Number>(is_kept: bool, least: Option<T>, value: T) -> Option<T>
-    ensures { option_map T.wide result ≡ cond is_kept (lesser (option_map T.wide least) (T.wide value)) (option_map T.wide least) }
-{
-    if is_kept {
-        Some(lesser_of(least, value))
-    } else {
-        least
-    }
-}
-
-/// The greatest value after one more value, if it is kept.
-fn greatest_with<T: Number>(is_kept: bool, greatest: Option<T>, value: T) -> Option<T>
-    ensures { option_map T.wide result ≡ cond is_kept (greater (option_map T.wide greatest) (T.wide value)) (option_map T.wide greatest) }
-{
-    if is_kept {
-        Some(greater_of(greatest, value))
-    } else {
-        greatest
-    }
-}
-
-/// The sum after one more value, if it is kept.
-fn sum_with<T: Number>(is_kept: bool, sum: T, value: T) -> T
-    ensures { T.bits result ≡ cond is_kept (wrap (T.bits sum + T.bits value)) (T.bits sum) }
-{
-    if is_kept { sum.add(value) } else { sum }
-}
-
 /// Counts one more record in a bucket, if there is such a bucket.
+#[tactic(auto, using(crate::proofs::aggregators::BoundLemmas::counted_set, crate::proofs::aggregators::BoundLemmas::counted_beyond))]
 fn count_in(counts: &mut [u64], bucket: usize)
     ensures { counts.new ≡ counted_in counts.old bucket }
 {
@@ -132,9 +104,13 @@ impl<T: Number + Drop> Aggregator for Buckets<T> {
     fn update(&mut self, value: (T, usize)) {
         let (value, bucket) = value;
         self.count = self.count.wrapping_add(1);
-        self.sum = sum_with(self.has_sum, self.sum, value);
-        self.least = least_with(self.has_min_max, self.least, value);
-        self.greatest = greatest_with(self.has_min_max, self.greatest, value);
+        if self.has_sum {
+            self.sum = self.sum.add(value);
+        }
+        if self.has_min_max {
+            self.least = Some(lesser_of(self.least, value));
+            self.greatest = Some(greater_of(self.greatest, value));
+        }
         count_in(&mut self.counts, bucket);
     }
 

@@ -17,20 +17,11 @@ use std::marker::Model;
 const FEW_KEYS: usize = 8;
 
 /// The keys of an allow-list, as they were given. One is found without going over a long list.
+#[derive(Drop)]
 pub struct AllowedKeys {
     keys: Items<Key>,
     /// The keys in byte order, if there are more than a few.
     sorted: Option<Vec<Key>>,
-}
-
-impl Drop for AllowedKeys {
-    /// A function of its own, so that no proof about who lets one go looks into it.
-    fn drop(self) {
-        let AllowedKeys {
-            keys: _keys,
-            sorted: _sorted,
-        } = self;
-    }
 }
 
 impl Model for AllowedKeys {
@@ -44,16 +35,6 @@ impl Model for AllowedKeys {
     ghost invariant = { λ a. IfSome a.sorted (λ sorted. HasKeysOf a.keys sorted.items) };
 }
 
-/// Copies of the keys, in byte order.
-fn sorted_keys(alloc: Global, keys: &[Key]) -> Result<Vec<Key>, Fault>
-    ensures keys { IfOk result (λ sorted. HasKeysOf keys.now sorted.items) }
-    ensures only_memory { IsOkUnless result Fault.OutOfMemory }
-{
-    let mut sorted = Vec::from_clones(alloc, keys)?;
-    sorted.sort_unstable();
-    Ok(sorted)
-}
-
 impl AllowedKeys {
     /// Makes an allow-list of these keys. More than a few are copied and sorted. Refused only for want of memory.
     pub fn new(alloc: Global, keys: Items<Key>) -> Result<AllowedKeys, Fault>
@@ -63,7 +44,8 @@ impl AllowedKeys {
         if keys.as_slice().len() <= FEW_KEYS {
             return Ok(AllowedKeys { keys, sorted: None });
         }
-        let sorted = sorted_keys(alloc, keys.as_slice())?;
+        let mut sorted = Vec::from_clones(alloc, keys.as_slice())?;
+        sorted.sort_unstable();
         Ok(AllowedKeys {
             keys,
             sorted: Some(sorted),

@@ -136,7 +136,7 @@ impl<'a> HashedSet<'a> {
         ensures hashed { IsHashedBy hasher result }
         ensures key { result.key ≡ self.now.key }
     {
-        let hash = if hasher.is_same(&self.hasher) {
+        let hash = if hasher == self.hasher {
             self.hash
         } else if self.references.is_empty() {
             hash_list(hasher, self.list)
@@ -154,6 +154,7 @@ impl<'a> HashedSet<'a> {
 
 /// A set of attributes, or a list of them as given, with its hash and what it was hashed with. It is to be added to a table,
 /// or is lent for many records.
+#[derive(Drop)]
 pub struct OwnedSet {
     hasher: SetHashBuilder,
     hash: u64,
@@ -170,17 +171,6 @@ impl Model for OwnedSet {
     ghost view = { λ o. o.set };
 
     ghost invariant = { λ o. o.hash ≡ (fed_set o.hasher o.set).state };
-}
-
-impl Drop for OwnedSet {
-    /// A function of its own, so that no proof about who lets one go looks into it.
-    fn drop(self) {
-        let OwnedSet {
-            hasher: _,
-            hash: _,
-            set: _set,
-        } = self;
-    }
 }
 
 impl OwnedSet {
@@ -240,7 +230,7 @@ impl OwnedSet {
             hash,
             set,
         } = self;
-        if hasher.is_same(&own) {
+        if hasher == own {
             return HashedKey { hash, key: set };
         }
         let hash = hash_list(hasher, set.as_slice());
@@ -250,6 +240,7 @@ impl OwnedSet {
 
 /// The attributes of a record as given, perhaps with their hash, so that they are hashed once for several maps or several
 /// records.
+#[derive(Drop)]
 pub struct GivenAttributes<'a> {
     attributes: &'a [KeyValue],
     /// What they were hashed with, and the hash.
@@ -266,16 +257,6 @@ impl<'a> Model for GivenAttributes<'a> {
     ghost view = { λ g. g.attributes.now };
 
     ghost invariant = { λ g. IfSome g.hashed (λ h. h.1 ≡ (fed_set h.0 g.attributes.now).state) };
-}
-
-impl<'a> Drop for GivenAttributes<'a> {
-    /// A function of its own, so that no proof about who lets one go looks into it.
-    fn drop(self) {
-        let GivenAttributes {
-            attributes: _,
-            hashed: _,
-        } = self;
-    }
 }
 
 impl<'a> GivenAttributes<'a> {
@@ -334,26 +315,11 @@ impl<'a> GivenAttributes<'a> {
 
 /// A key that stands in a table: a set, or a list as given, with its hash. Two keys are compared attribute by attribute
 /// only if their hashes are equal.
+#[derive(Drop)]
 pub(crate) struct HashedKey {
     hash: u64,
-    key: SharedItems<KeyValue>,
-}
-
-impl Drop for HashedKey {
-    /// A function of its own, so that no proof about who lets one go looks into it.
-    #[inline(always)]
-    fn drop(self) {
-        let HashedKey { hash: _, key: _key } = self;
-    }
-}
-
-impl HashedKey {
     /// The set or list.
-    pub fn key(&self) -> &SharedItems<KeyValue>
-        ensures { result.now ≡ self.now.key }
-    {
-        &self.key
-    }
+    pub(crate) key: SharedItems<KeyValue>,
 }
 
 impl PartialEq for HashedKey {

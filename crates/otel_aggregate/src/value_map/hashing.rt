@@ -23,7 +23,7 @@ pub struct SetHasher {
 }
 
 /// Makes hashers for sets, all started from one seed. Keys made to collide under one seed don't collide under another.
-#[derive(Clone, Copy)]
+#[derive(Clone, Copy, PartialEq, Eq)]
 pub struct SetHashBuilder {
     seed: u64,
 }
@@ -34,14 +34,6 @@ impl SetHashBuilder {
         ensures { result ≡ record { seed = seed } }
     {
         SetHashBuilder { seed }
-    }
-
-    /// Whether another builder's hashers start from the same seed.
-    #[inline(always)]
-    pub fn is_same(&self, other: &SetHashBuilder) -> bool
-        ensures { result ≡ (self.now.seed == other.now.seed) }
-    {
-        self.seed == other.seed
     }
 }
 
@@ -91,15 +83,14 @@ fn read_u64(bytes: &[u8], at: usize) -> u64
     read_u32(bytes, at) | read_u32(bytes, at + 4) << 32
 }
 
-/// Reads up to 8 bytes as one number, by reads that may overlap.
+/// Reads up to 3 bytes as one number, by reads that may overlap.
 #[inline]
 fn read_short(bytes: &[u8]) -> u64
+    requires { length bytes.now ≤ 3 }
     ensures { result ≡ read_short bytes.now }
 {
     let len = bytes.len();
-    if len >= 4 {
-        read_u32(bytes, 0) | read_u32(bytes, len - 4) << 32
-    } else if len > 0 {
+    if len > 0 {
         bytes[0] as u64 | (bytes[len / 2] as u64) << 8 | (bytes[len - 1] as u64) << 16
     } else {
         0
@@ -148,31 +139,6 @@ fn after_many(state: u64, bytes: &[u8]) -> u64
     mixed(state.wrapping_add(len as u64), bytes, 0, len - 8)
 }
 
-/// The state after 4 to 8 bytes.
-#[inline]
-fn after_some(state: u64, bytes: &[u8]) -> u64
-    requires { 4 ≤ length bytes.now }
-    ensures { result ≡ spec.after_some state bytes.now }
-{
-    let len = bytes.len();
-    folded_multiply(
-        read_u32(bytes, 0) ^ state.wrapping_add(len as u64),
-        read_u32(bytes, len - 4) ^ MULTIPLIER,
-    )
-}
-
-/// The state after up to 3 bytes, taken as one number.
-#[inline]
-fn after_few(state: u64, bytes: &[u8]) -> u64
-    requires { length bytes.now ≤ 3 }
-    ensures { result ≡ spec.after_few state bytes.now }
-{
-    folded_multiply(
-        state ^ read_short(bytes),
-        MULTIPLIER ^ (2 * bytes.len() as u64),
-    )
-}
-
 /// The state after one byte.
 #[inline]
 fn after_one(state: u64, byte: u8) -> u64
@@ -184,7 +150,7 @@ fn after_one(state: u64, byte: u8) -> u64
     (state ^ byte as u64).wrapping_mul(MULTIPLIER)
 }
 
-/// The state after these bytes.
+/// The state after these bytes. Up to 3 bytes are taken as one number.
 #[inline]
 pub(crate) fn after(state: u64, bytes: &[u8]) -> u64
     ensures { result ≡ spec.after state bytes.now }
@@ -194,12 +160,15 @@ pub(crate) fn after(state: u64, bytes: &[u8]) -> u64
         return after_many(state, bytes);
     }
     if len >= 4 {
-        return after_some(state, bytes);
+        return folded_multiply(
+            read_u32(bytes, 0) ^ state.wrapping_add(len as u64),
+            read_u32(bytes, len - 4) ^ MULTIPLIER,
+        );
     }
     if len == 1 {
         return after_one(state, bytes[0]);
     }
-    after_few(state, bytes)
+    folded_multiply(state ^ read_short(bytes), MULTIPLIER ^ (2 * len as u64))
 }
 
 impl Hasher for SetHasher {
@@ -213,11 +182,13 @@ impl Hasher for SetHasher {
     }
 
     #[inline]
+    #[tactic(auto, unfolding(crate::specs::value_map::Hashing::write))]
     fn write(&mut self, bytes: &[u8]) {
         self.state = after(self.state, bytes);
     }
 
     #[inline]
+    #[tactic(auto, unfolding(crate::specs::value_map::Hashing::write))]
     fn write_u8(&mut self, byte: u8) {
         self.state = after_one(self.state, byte);
     }

@@ -50,6 +50,7 @@ impl Hasher for KeyHasher {
         self.state
     }
 
+    #[tactic(auto, unfolding(crate::specs::value_map::Hashing::write_key))]
     fn write(&mut self, bytes: &[u8]) {
         self.state = after_key(self.state, bytes);
     }

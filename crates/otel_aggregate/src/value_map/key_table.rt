@@ -25,6 +25,7 @@ use std::marker::Model;
 type Numbered = IndexMap<HashedKey, usize, KeyHashBuilder>;
 
 /// The numbers of slots, by set and by list as given.
+#[derive(Drop)]
 pub struct KeyTable {
     /// Hashes the sets and lists.
     pub hasher: SetHashBuilder,
@@ -51,19 +52,9 @@ impl Model for KeyTable {
     ghost invariant = { λ t. AllByRecursion (λ e. IsHashedBy t.hasher e.0) t.sets.entries × AllByRecursion (λ e. IsHashedBy t.hasher e.0) t.aliases.entries };
 }
 
-impl Drop for KeyTable {
-    /// A function of its own, so that no proof about who lets one go looks into it.
-    fn drop(self) {
-        let KeyTable {
-            hasher: _,
-            sets: _sets,
-            aliases: _aliases,
-        } = self;
-    }
-}
-
 /// The number that a key leads to, where all keys are hashed alike.
 #[inline(always)]
+#[tactic(auto, using(crate::proofs::value_map::HashedLemmas::lookup_hashed))]
 fn number_in(numbers: &Numbered, key: &HashedSet) -> Option<usize>
     requires { (b : SetHashBuilder) × IsHashedBy b key.now × AllByRecursion (λ e. IsHashedBy b e.0) numbers.now.entries }
     ensures { result ≡ lookup (set_eq key.now.key) (map plain numbers.now.entries) }

@@ -9,6 +9,7 @@ use crate::aggregators::aggregator::Aggregator;
 use slab::Slab;
 
 /// What is kept of the records of one set.
+#[derive(Drop)]
 pub struct Slot<A> {
     pub aggregator: A,
     /// Whether the limit counts it.
@@ -19,19 +20,6 @@ pub struct Slot<A> {
     pub lasting: bool,
     /// How many live handles hold it.
     pub handles: u64,
-}
-
-impl<A: Drop> Drop for Slot<A> {
-    /// A function of its own, so that no proof about who lets one go looks into it.
-    fn drop(self) {
-        let Slot {
-            aggregator: _aggregator,
-            counted: _,
-            updated: _,
-            lasting: _,
-            handles: _,
-        } = self;
-    }
 }
 
 impl<A: Aggregator> Slot<A> {

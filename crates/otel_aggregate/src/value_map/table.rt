@@ -34,6 +34,7 @@ use std::marker::Model;
 
 /// The entries of a map. Each entry is in a slot and keeps the slot's number as long as it exists; a freed slot is
 /// used again.
+#[derive(Drop)]
 pub struct Table<A: Aggregator> {
     slots: Slab<Slot<A>>,
     /// The slot of the empty set, which has no key.
@@ -53,27 +54,6 @@ impl<A: Aggregator> Model for Table<A> {
     ghost view = { λ t. slotted (look_in A.meaning t.slots) t.none t.keys.sets t.keys.aliases (nat_le (slab_len t.slots + 1) t.slots.capacity && t.keys.room) };
 
     ghost invariant = { λ t. IsConsistent (look_in A.meaning t.slots) t.none t.keys.sets t.keys.aliases };
-}
-
-impl<A: Aggregator> Drop for Table<A> {
-    /// A function of its own, so that no proof about who lets one go looks into it.
-    fn drop(self) {
-        let Table {
-            slots: _slots,
-            none: _,
-            keys: _keys,
-        } = self;
-    }
-}
-
-/// How many points the sets have: all, or those that were updated.
-fn count_shown<A: Aggregator>(slots: &Slab<Slot<A>>, keys: &KeyTable, every: bool) -> usize {
-    let sets = keys.sets();
-    if every {
-        return sets.len();
-    }
-    sets.filter(|(_, number)| slots.get(**number).is_some_and(|slot| slot.updated))
-        .count()
 }
 
 /// The point of the empty set, whose slot has this number, if that slot was updated, in a list with room for this many
@@ -118,7 +98,7 @@ fn add_points<A: Aggregator, M: PointMaker<A>>(
         if let Some(slot) = slots.get(*number) {
             let is_shown = every || slot.updated;
             if is_shown {
-                let set = set.key().share()?;
+                let set = set.key.share()?;
                 points.push(maker.point(alloc, set, &slot.aggregator)?)?;
             }
         }
@@ -147,16 +127,6 @@ fn total_of<A: Aggregator>(slots: &Slab<Slot<A>>, keys: &KeyTable, every: bool) 
     total
 }
 
-/// Whether the limit counts the slot with this number.
-fn is_counted<A: Aggregator>(slots: &Slab<Slot<A>>, number: usize) -> bool
-    ensures { (s : AttributeSet) → result ≡ (entry_at (look_in A.meaning slots.now) (s, number)).counted }
-{
-    match slots.get(number) {
-        None => false,
-        Some(slot) => slot.counted,
-    }
-}
-
 /// How many of the sets the limit counts.
 #[tactic(auto, using(crate::proofs::value_map::TableLemmas::counted_cons, crate::proofs::value_map::TableLemmas::counted_few))]
 fn count_counted<A: Aggregator>(slots: &Slab<Slot<A>>, keys: &KeyTable) -> usize
@@ -164,7 +134,7 @@ fn count_counted<A: Aggregator>(slots: &Slab<Slot<A>>, keys: &KeyTable) -> usize
 {
     let mut count = 0;
     for (_, number) in keys.sets() {
-        if is_counted(slots, *number) {
+        if slots.get(*number).is_some_and(|slot| slot.counted) {
             count += 1;
         }
     }
@@ -181,14 +151,6 @@ fn shown_in<A: Aggregator>(slots: &Slab<Slot<A>>, number: usize) -> Option<&A>
     } else {
         None
     }
-}
-
-/// The aggregator in the slot with this number.
-fn aggregator_in<A: Aggregator>(slots: &Slab<Slot<A>>, number: usize) -> Option<&A>
-    ensures { option_map (λ found. A.meaning found.now) result ≡ option_map (λ kept. kept.fold) (look_in A.meaning slots.now number) }
-{
-    let slot = slots.get(number)?;
-    Some(&slot.aggregator)
 }
 
 /// A copy of a slot.
@@ -211,7 +173,7 @@ fn form_in(keys: &KeyTable, allow: Option<&AllowedKeys>, list: &[KeyValue]) -> O
     ensures { result ≡ lookup (set_eq (canon (allowed_part (option_copied allow.entry) list.now))) keys.now.sets }
 {
     for (set, number) in keys.sets() {
-        if is_form_of(set.key().as_slice(), allow, list) {
+        if is_form_of(set.key.as_slice(), allow, list) {
             return Some(*number);
         }
     }
@@ -240,6 +202,7 @@ impl<A: Aggregator> Table<A> {
     }
 
     /// The law that the empty set's entry isn't counted, and that some aggregator has its records.
+    #[tactic(auto, using(crate::proofs::value_map::KeyedLemmas::form_kept))]
     pub fn law_of_empty_set(&self)
         ensures { HasForm A.meaning self.now.table }
     {
@@ -247,6 +210,7 @@ impl<A: Aggregator> Table<A> {
     }
 
     /// The law that numbers and sets lead to each other.
+    #[tactic(auto, using(crate::proofs::value_map::KeyedLemmas::numbers_placed))]
     pub fn law_of_numbers(&self)
         ensures named { AreNamed self.now.numbers }
         ensures placed { AreNumbered self.now.table.entries self.now.numbers }
@@ -267,6 +231,7 @@ impl<A: Aggregator> Table<A> {
     }
 
     /// The number that a set leads to.
+    #[tactic(auto, using(crate::proofs::value_map::KeyedLemmas::has_lookup))]
     pub fn find_set(&self, set: &HashedSet) -> Option<usize>
         ensures number { result ≡ lookup (set_eq set.now.key) self.now.numbers.sets }
         ensures placed { is_some result ≡ has set.now.key self.now.table.entries }
@@ -286,6 +251,7 @@ impl<A: Aggregator> Table<A> {
 
     /// The number that a list leads to as given: as a set, or as the list that admitted one.
     #[inline(always)]
+    #[tactic(auto, using(crate::proofs::value_map::KeyedLemmas::found_known))]
     pub fn find(&self, list: &HashedSet) -> Option<usize>
         ensures number { result ≡ found list.now.key self.now.numbers.sets self.now.aliases }
         ensures known { is_some result ≡ (is_member set_eq (keys_of self.now.aliases) list.now.key || has list.now.key self.now.table.entries) }
@@ -410,7 +376,13 @@ impl<A: Aggregator> Table<A> {
         ensures points { IfOk result (λ given. map M.seen given.items ≡ map (M.shown maker.now) (points every self.now.table)) }
         ensures only_memory { IsOkUnless result Fault.OutOfMemory }
     {
-        let more = count_shown(&self.slots, &self.keys, every);
+        let sets = self.keys.sets();
+        let more = if every {
+            sets.len()
+        } else {
+            sets.filter(|(_, number)| self.slots.get(**number).is_some_and(|slot| slot.updated))
+                .count()
+        };
         let mut points = first_points(alloc, maker, &self.slots, self.none, more)?;
         add_points(alloc, maker, &self.slots, &self.keys, every, &mut points)?;
         Ok(points)
@@ -439,7 +411,7 @@ impl<A: Aggregator> Table<A> {
             return shown_in(&self.slots, self.none);
         }
         let number = self.find_set(set)?;
-        aggregator_in(&self.slots, number)
+        self.slots.get(number).map(|slot| &slot.aggregator)
     }
 
     /// A copy of the entries, which shares their sets. It doesn't know lists that admitted a set in another form.
@@ -472,7 +444,7 @@ fn copy_entries<A: Aggregator>(
         if let Some(slot) = slots.get(*number) {
             made.make_room()?;
             let slot = copy_slot(alloc, slot)?;
-            let set = OwnedSet::new(keys.hasher, set.key().share()?);
+            let set = OwnedSet::new(keys.hasher, set.key.share()?);
             made.add(set, None, slot);
         }
     }

@@ -1,4 +1,4 @@
-use Rattle.std.specs.Prelude.{◌≡◌, ℕ, suc, ◌+◌, ◌-◌, ◌*◌, ◌/◌, length, refl}
+use Rattle.std.specs.Prelude.{◌≡◌, ℕ, suc, ◌+◌, ◌*◌, ◌/◌, refl}
 use native.Mathlib.Omega.{arith}
 use Rattle.std.specs.Hash.FoldHasher.{mix_blocks}
 use Rattle.otel_aggregate.proofs.value_map.hashing.after_long.Goals as goal
@@ -17,9 +17,3 @@ loop-at-preserved c =
       omega arith,
       rw (more, c.mixed-state.ensures, ← c.loop-at.invariant.2, ← whole),
     )
-
-pub returns : goal.returns
-returns c =
-    let n : ℕ = length c.args.bytes.now in
-    let count : (n - 1) / 16 ≡ c.loop-at.at / 16 = omega (arith, c.loop-at.invariant.0, c.loop-at.invariant.1, c.loop-at-test.false) in
-    rw (count, ← c.loop-at.invariant.2, c.mixed.ensures)

@@ -1,7 +1,7 @@
-use Rattle.std.proofs.Common.{◌∙◌, ap, map, is_some}
+use Rattle.std.proofs.Common.{◌∙◌, sym, ap, map, is_some}
 use Rattle.otel_aggregate.specs.value_map.Hashed.{plain}
 use Rattle.otel_aggregate.specs.value_map.Slots.{look_in}
-use Rattle.otel_aggregate.proofs.value_map.HashedLemmas.{all-filter, plain-filter}
+use Rattle.otel_aggregate.proofs.All.{all-filter, filter-map}
 use Rattle.otel_aggregate.proofs.value_map.key_table.KeyTable.keep_filled.Goals as goal
 
 pub invariant_of-self : goal.invariant_of-self
@@ -9,8 +9,8 @@ invariant_of-self g c = rw (c.keep_filled.ensures, c.keep_filled-2.ensures) (all
 
 pub returns-clause-sets : goal.returns-clause-sets
 returns-clause-sets g c =
-    rw (← c.self.view_is) (ap (map plain) c.keep_filled.ensures ∙ plain-filter (λ n. is_some (look_in g.A.Aggregator.meaning c.args.slots.now n)) c.self.inside.sets.entries)
+    rw (← c.self.view_is) (ap (map plain) c.keep_filled.ensures ∙ sym (filter-map plain (λ e. is_some (look_in g.A.Aggregator.meaning c.args.slots.now e.1)) c.self.inside.sets.entries))
 
 pub returns-clause-aliases : goal.returns-clause-aliases
 returns-clause-aliases g c =
-    rw (← c.self.view_is) (ap (map plain) c.keep_filled-2.ensures ∙ plain-filter (λ n. is_some (look_in g.A.Aggregator.meaning c.args.slots.now n)) c.self.inside.aliases.entries)
+    rw (← c.self.view_is) (ap (map plain) c.keep_filled-2.ensures ∙ sym (filter-map plain (λ e. is_some (look_in g.A.Aggregator.meaning c.args.slots.now e.1)) c.self.inside.aliases.entries))

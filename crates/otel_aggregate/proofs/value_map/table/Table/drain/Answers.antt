@@ -1,10 +1,8 @@
-use Rattle.std.proofs.Common.{ap, ◌∙◌, cond, None, List}
+use Rattle.std.proofs.Common.{ap, ◌∙◌, cond, None}
 use Rattle.std.specs.Option.{option_map}
-use Rattle.otel_model_stream.specs.Entries.{drained_table}
-use Rattle.otel_aggregate.specs.value_map.Keyed.{Slotted}
-use Rattle.otel_aggregate.specs.value_map.Slots.{look_in, forgotten, Keyed, table_at}
+use Rattle.otel_aggregate.specs.value_map.Slots.{look_in, forgotten}
 use Rattle.otel_aggregate.proofs.value_map.KeyedLemmas.{same_number}
-use Rattle.otel_aggregate.proofs.value_map.LeftLemmas.{kept-drained, table-drained}
+use Rattle.otel_aggregate.proofs.value_map.LeftLemmas.{kept-drained}
 use Rattle.otel_aggregate.proofs.value_map.table.Table.drain.Goals as goal
 
 pub invariant_of-self : goal.invariant_of-self
@@ -14,13 +12,3 @@ invariant_of-self g c =
     let left = c.clear_others.ensures.look none ∙ ap (λ b. cond b (option_map forgotten (look none)) None) (same_number none) in
     let laws = kept-drained look (look_in g.A.Aggregator.meaning c.clear_others.new.slots) none c.self.inside.keys.sets c.self.inside.keys.aliases c.self.invariant left in
     rw (c.clear.ensures.sets, c.clear.ensures.aliases) laws
-
-pub returns-clause-table : goal.returns-clause-table
-returns-clause-table g c =
-    let look = look_in g.A.Aggregator.meaning c.self.inside.slots in
-    let other = look_in g.A.Aggregator.meaning c.clear_others.new.slots in
-    let none = c.self.inside.none in
-    let left = c.clear_others.ensures.look none ∙ ap (λ b. cond b (option_map forgotten (look none)) None) (same_number none) in
-    ap (λ (es : List Keyed). table_at other none es) c.clear.ensures.sets
-    ∙ table-drained look other none c.self.inside.keys.sets c.self.inside.keys.aliases c.self.invariant left
-    ∙ ap (λ (t : Slotted). drained_table t.table) c.self.view_is

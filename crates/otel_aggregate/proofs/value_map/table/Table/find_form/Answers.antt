@@ -4,17 +4,14 @@ use Rattle.otel_common.specs.Canonical.{canon}
 use Rattle.otel_common.specs.declared.attributes.KeyValue.{KeyValue}
 use Rattle.otel_model_stream.specs.Sets.{allowed_part}
 use Rattle.otel_aggregate.specs.value_map.Slots.{look_in}
-use Rattle.otel_aggregate.proofs.value_map.KeyedLemmas.{has-lookup, if_found, unfound}
+use Rattle.otel_aggregate.proofs.value_map.KeyedLemmas.{has_lookup, if_found, unfound}
 use Rattle.otel_aggregate.proofs.value_map.table.Table.find_form.Goals as goal
-
-pub form_in-requires : goal.form_in-requires
-form_in-requires g c = (look_in g.A.Aggregator.meaning c.self.inside.slots, c.self.invariant.fits)
 
 pub returns-clause-placed : goal.returns-clause-placed
 returns-clause-placed g c =
     let look = look_in g.A.Aggregator.meaning c.self.inside.slots in
     let l : List KeyValue = allowed_part (option_copied c.args.allow) c.args.list.now in
-    rw (← c.self.view_is) (ap is_some c.form_in.ensures ∙ sym (has-lookup (canon l) look c.self.inside.keys.sets))
+    rw (← c.self.view_is) (ap is_some c.form_in.ensures ∙ sym (has_lookup (canon l) look c.self.inside.keys.sets))
 
 pub returns-clause-named : goal.returns-clause-named
 returns-clause-named g c =

@@ -1,12 +1,6 @@
-use Rattle.std.proofs.Common.{◌∙◌, ap, sym, is_some}
 use Rattle.otel_aggregate.specs.value_map.Slots.{look_in}
-use Rattle.otel_aggregate.proofs.value_map.KeyedLemmas.{has-lookup, if_found}
+use Rattle.otel_aggregate.proofs.value_map.KeyedLemmas.{if_found}
 use Rattle.otel_aggregate.proofs.value_map.table.Table.find_set.Goals as goal
-
-pub returns-clause-placed : goal.returns-clause-placed
-returns-clause-placed g c =
-    let look = look_in g.A.Aggregator.meaning c.self.inside.slots in
-    rw (← c.self.view_is) (ap is_some c.find_set.ensures ∙ sym (has-lookup c.args.set.now.key look c.self.inside.keys.sets))
 
 pub returns-clause-named : goal.returns-clause-named
 returns-clause-named g c =

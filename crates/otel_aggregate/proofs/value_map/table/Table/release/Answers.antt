@@ -3,12 +3,8 @@ use Rattle.otel_model_stream.specs.Entries.{drop_handle, at_entry}
 use Rattle.otel_aggregate.specs.value_map.Keyed.{Slotted}
 use Rattle.otel_aggregate.specs.value_map.Slots.{released}
 use Rattle.otel_aggregate.specs.value_map.Numbers.{number_of, is_number}
-use Rattle.otel_aggregate.proofs.value_map.TouchLemmas.{kept-touched, table-touched, table-untouched, counted-touched}
+use Rattle.otel_aggregate.proofs.value_map.TouchLemmas.{table-touched, table-untouched, counted-touched}
 use Rattle.otel_aggregate.proofs.value_map.table.Table.release.Goals as goal
-
-pub invariant_of-self : goal.invariant_of-self
-invariant_of-self g c =
-    kept-touched released drop_handle (λ s k. refl) (λ k. refl) (λ k. refl) _ _ c.args.number c.release.ensures.look c.self.inside.none c.self.inside.keys.sets c.self.inside.keys.aliases c.self.invariant
 
 pub returns-clause-table : goal.returns-clause-table
 returns-clause-table g c = λ s e.
