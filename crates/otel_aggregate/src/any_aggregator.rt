@@ -1,7 +1,7 @@
 //! What is kept of the records of one set of attributes, whatever the aggregate.
 
-ghost use Rattle.std.specs.Prelude.{◌≡◌, cond, IfOk, IsOkUnless, refl};
-ghost use Rattle.otel_model_stream.specs.Folds.{Fold, Spreads, lesser, greater, record_spread, clear_fold, clear_fold_no_spread, no_spread};
+ghost use Rattle.std.specs.Prelude.{◌≡◌, refl};
+ghost use Rattle.otel_model_stream.specs.Folds.{record_spread, clear_fold_no_spread};
 ghost use Rattle.otel_model_stream.specs.Totals.{value_of};
 ghost use Rattle.otel_aggregate.specs.AnyKept.{spread_in, fold_in, empty_for, sample_in};
 ghost use Rattle.otel_aggregate.specs.declared.any_aggregator.AnyConfig.TheVariants as config;

@@ -7,11 +7,8 @@ ghost use Rattle.otel_data.specs.declared.points.SumDataPoint.{SumDataPoint as S
 ghost use Rattle.otel_data.specs.declared.points.GaugeDataPoint.{GaugeDataPoint as GaugeValue};
 ghost use Rattle.otel_data.specs.declared.points.HistogramDataPoint.{HistogramDataPoint as HistogramValue};
 ghost use Rattle.otel_model_stream.specs.Maps.{draining_points};
-ghost use Rattle.otel_model_stream.specs.Observed.{value_before};
-ghost use Rattle.otel_model_stream.specs.Totals.{value_of};
 ghost use Rattle.otel_model_stream.specs.Data.{sum_point, gauge_point, histogram_point};
 ghost use Rattle.otel_aggregate.specs.Any.{Sums as SumForm, Spreads as SpreadForm, form_of, metrics_now, observed_in};
-ghost use Rattle.otel_aggregate.specs.AnyKept.{fold_in};
 ghost use Rattle.otel_aggregate.specs.Data.{sum_data, gauge_data, histogram_data};
 ghost use Rattle.otel_aggregate.specs.Kept.{IsWithinIfSome, IsKept, any_data};
 ghost use Rattle.otel_aggregate.specs.Observed.{since_reported, observed_data};

@@ -1,6 +1,6 @@
 //! What a histogram keeps of the records of one set of attributes.
 
-ghost use Rattle.std.specs.Prelude.{◌≡◌, ◌+◌, ℤ, Bool, List, ◌∷◌, Some, cond, sum};
+ghost use Rattle.std.specs.Prelude.{◌≡◌, ◌+◌, ℤ, Bool, List, ◌∷◌, Some, sum};
 ghost use Rattle.std.specs.Option.{option_map};
 ghost use Rattle.otel_model_stream.specs.Folds.{Spreads, Amount, Histogram, fold_of, wrap, lesser, greater, counted_in, no_spread, clear_fold_no_spread};
 
