@@ -5,7 +5,7 @@ use Rattle.std.specs.Prelude.{◌%◌, ◌^◌, OnOk, IfErr}
 use Rattle.otel_common.specs.declared.faults.Fault.{Fault}
 use Rattle.otel_model_stream.specs.Folds.{Amount, wrap}
 use Rattle.otel_model.specs.Calls as model
-use Rattle.otel_model.specs.Calls.{Call, Meter, Build, Record, Bind, RecordBound, Unbind, Collect, Flush, Shutdown, Reply}
+use Rattle.otel_model.specs.Calls.{Call, Record, RecordBound, Reply}
 use Rattle.otel_model.specs.Demands.{Views}
 use Rattle.otel_model.specs.Machine.{accepted_after}
 use Rattle.otel_model.specs.Refusals.{refusal}
@@ -90,23 +90,13 @@ done-adds old (p ∷ ps) new done =
 
 -- ======== other calls ========
 adds_none : (amount : Amount → ℕ) (call : Call) → is_record call ≡ false → added_by amount call ≡ 0
-adds_none amount (Meter scope) e = refl
-adds_none amount (Build meter about now) e = refl
 adds_none amount (Record n v l) e = absurd (true≢false e)
-adds_none amount (Bind n l) e = refl
 adds_none amount (RecordBound h v) e = absurd (true≢false e)
-adds_none amount (Unbind h) e = refl
-adds_none amount (Collect r now os) e = refl
-adds_none amount Flush e = refl
-adds_none amount Shutdown e = refl
+adds_none amount call e = refl
 
 none_if_done : (reply : Reply) → if_done reply 0 ≡ 0
-none_if_done (Reply.Meter n) = refl
-none_if_done (Reply.Instrument n) = refl
-none_if_done (Reply.Handle n) = refl
-none_if_done Reply.Done = refl
-none_if_done (Reply.Collected c) = refl
 none_if_done (Reply.Refused f) = refl
+none_if_done reply = refl
 
 added_none : (n : ℕ) (amount : Amount → ℕ) (call : Call) (reply : Reply) → is_record call ≡ false → wrap (n + if_done reply (added_by amount call)) ≡ wrap n
 added_none n amount call reply e =

@@ -18,20 +18,16 @@ use Rattle.opentelemetry_sdk.specs.declared.metrics.shared.pending.PendingRecord
 abbrev IsOther : Option model.Fault → Type 0
 IsOther o = o ≡ Some model.Fault.LedgerFull → ⊥
 
+either_other : (b : Bool) (o p : Option model.Fault) → IsOther o → IsOther p → IsOther (cond b o p)
+either_other true o p f g = f
+either_other false o p f g = g
+
 number_other : (signed given : Bool) → IsOther (number_refusal signed given)
-number_other signed given = go (beq signed given)
-  where
-    go : (b : Bool) → IsOther (cond b None (Some model.Fault.WrongNumber))
-    go true e = absurd (cc)
-    go false e = absurd (cc)
+number_other signed given = either_other (beq signed given) None (Some model.Fault.WrongNumber) (λ e. absurd (cc)) (λ e. absurd (cc))
 
 record_other : (o : Option InstrumentState) (given : Bool) → IsOther (record_refusal o given)
 record_other None given e = absurd (cc)
-record_other (Some i) given e = go (is_observable i.kind) e
-  where
-    go : (b : Bool) → IsOther (cond b (Some model.Fault.WrongKind) (number_refusal i.signed given))
-    go true e = absurd (cc)
-    go false e = number_other i.signed given e
+record_other (Some i) given e = either_other (is_observable i.kind) (Some model.Fault.WrongKind) (number_refusal i.signed given) (λ e. absurd (cc)) (number_other i.signed given) e
 
 held_other : (o : Option InstrumentState) (given : Bool) → IsOther (held_refusal o given)
 held_other None given e = absurd (cc)

@@ -1,7 +1,10 @@
 -- Calls that the provider carries out are the model's.
-use Rattle.std.proofs.Common.{◌≡◌, ℕ, zero, suc, ◌+◌, ◌<◌, Bool, true, false, cond, not, ◌||◌, List, [], ◌∷◌, ◌++◌, map, length, take, Option, Some, None, option_map, slice_get, refl, sym, ◌∙◌, ap, subst, arith, true≢false}
+use Rattle.std.proofs.Common.{◌≡◌, ℕ, ◌+◌, ◌<◌, Bool, true, false, cond, not, ◌||◌, List, [], ◌∷◌, ◌++◌, map, length, take, Option, Some, None, slice_get, refl, sym, ◌∙◌, ap, subst, arith, true≢false}
 use Rattle.std.specs.Prelude.{Result, Ok, Err, OnOk, OnErr, IfOk, IsOkUnless, is_some, position}
 use Rattle.std.specs.List.{list_any, position_or_len}
+use Rattle.std.proofs.Math.Seq.{take-append_seam}
+use Rattle.std.proofs.lemmas.List.{append-nil}
+use Rattle.std.proofs.lemmas.Option.{slice_get_within}
 use Rattle.otel_common.specs.Scopes.{scope_eq, scope_eq-Decides}
 use Rattle.otel_common.specs.declared.attributes.KeyValue.{KeyValue}
 use Rattle.otel_common.specs.declared.faults.Fault.{Fault}
@@ -15,7 +18,8 @@ use Rattle.otel_model.specs.Sent.{has_scope}
 use Rattle.otel_model.specs.State.{ReaderPart, InstrumentState, LiveHandle, State}
 use Rattle.otel_model.specs.Steps.{Step, number_from, reply_by, after_by}
 use Rattle.opentelemetry_sdk.specs.pipeline.Pipelines.{Piped, part_of}
-use Rattle.opentelemetry_sdk.proofs.pipeline.Builds.{any-position, position-cons}
+use Rattle.opentelemetry_sdk.proofs.pipeline.Builds.{any-position, position-at}
+use Rattle.opentelemetry_sdk.proofs.pipeline.Identities.{scope-flip}
 use Rattle.opentelemetry_sdk.specs.pipeline.Views.{views_answering}
 use Rattle.opentelemetry_sdk.proofs.Asked.{built-answered}
 use Rattle.opentelemetry_sdk.proofs.Stepped.{memory-step}
@@ -24,53 +28,27 @@ use Rattle.opentelemetry_sdk.specs.Correspondence.{reply_from}
 use Rattle.opentelemetry_sdk.specs.States.{IsScopeOf, IsGoodIn, AreAsked, FeedType, IsTakenBy, AreTyped}
 
 -- ======== meters ========
-scope_eq-flip : (a b : InstrumentationScope) → scope_eq a b ≡ scope_eq b a
-scope_eq-flip a b = by (scope_eq a b) (scope_eq b a) refl refl
-  where
-    by : (x y : Bool) → scope_eq a b ≡ x → scope_eq b a ≡ y → x ≡ y
-    by true true p q = refl
-    by false false p q = refl
-    by true false p q = sym ((scope_eq-Decides b a).1 (sym ((scope_eq-Decides a b).0 p))) ∙ q
-    by false true p q = sym p ∙ (scope_eq-Decides a b).1 (sym ((scope_eq-Decides b a).0 q))
-
 pub has_scope-flip : (scope : InstrumentationScope) (ms : List InstrumentationScope) → has_scope scope ms ≡ list_any (scope_eq scope) ms
-has_scope-flip scope [] = refl
-has_scope-flip scope (m ∷ ms) = λ i. scope_eq-flip m scope i || has_scope-flip scope ms i
+has_scope-flip scope ms = λ i. list_any (λ m. scope-flip m scope i) ms
 
-number_shift : (k n : ℕ) → Some (k + 1 + n) ≡ Some (k + (1 + n))
-number_shift k n = ap (λ m. Some m) (omega arith)
-
-number_step : (scope m : InstrumentationScope) (k n : ℕ) (b : Bool) (rest : Option ℕ) → scope_eq m scope ≡ b → rest ≡ Some (k + 1 + n) → cond b (Some k) rest ≡ Some (k + cond (not b) (1 + n) 0)
-number_step scope m k n true rest e r = ap (λ m. Some m) (omega arith)
-number_step scope m k n false rest e r = r ∙ number_shift k n
-
-self_scope : (scope : InstrumentationScope) → scope_eq scope scope ≡ true
-self_scope scope = (scope_eq-Decides scope scope).1 refl
-
--- a scope at the end has the number of its first place
-number_last : (scope : InstrumentationScope) (k : ℕ) (ms : List InstrumentationScope) → number_from k scope (ms ++ scope ∷ []) ≡ Some (k + position_or_len (scope_eq scope) ms)
-number_last scope k [] = rw (self_scope scope) (ap (λ m. Some m) (omega arith))
-number_last scope k (m ∷ ms) =
-    number_step scope m k (position_or_len (scope_eq scope) ms) (scope_eq m scope) _ refl (number_last scope (k + 1) ms)
-    ∙ ap (λ b. Some (k + cond (not b) (1 + position_or_len (scope_eq scope) ms) 0)) (scope_eq-flip m scope)
-
-number_there : (scope : InstrumentationScope) (k : ℕ) (ms : List InstrumentationScope) → list_any (scope_eq scope) ms ≡ true → number_from k scope ms ≡ Some (k + position_or_len (scope_eq scope) ms)
-number_there scope k [] h = absurd (true≢false (sym h))
-number_there scope k (m ∷ ms) h =
-    by (scope_eq scope m) (scope_eq-flip m scope) h (λ q. number_there scope (k + 1) ms q)
+-- a scope that is there, or that is added at the end, has the number of its first place
+number_at : (scope : InstrumentationScope) (k : ℕ) (ms more : List InstrumentationScope) → (list_any (scope_eq scope) ms ≡ false → (n : ℕ) → number_from n scope more ≡ Some n) → number_from k scope (ms ++ more) ≡ Some (k + position_or_len (scope_eq scope) ms)
+number_at scope k [] more last = last refl k ∙ ap (λ n. Some n) (omega arith)
+number_at scope k (m ∷ ms) more last = by (scope_eq scope m) (scope-flip m scope) last (λ l. number_at scope (k + 1) ms more l)
   where
-    by : (b : Bool) → scope_eq m scope ≡ b → (b || list_any (scope_eq scope) ms) ≡ true → (list_any (scope_eq scope) ms ≡ true → number_from (k + 1) scope ms ≡ Some (k + 1 + position_or_len (scope_eq scope) ms))
-        → cond (scope_eq m scope) (Some k) (number_from (k + 1) scope ms) ≡ Some (k + cond (not b) (1 + position_or_len (scope_eq scope) ms) 0)
-    by true e q rest = rw e (ap (λ m. Some m) (omega arith))
-    by false e q rest = rw e (rest q ∙ number_shift k (position_or_len (scope_eq scope) ms))
+    by : (b : Bool) → scope_eq m scope ≡ b → ((b || list_any (scope_eq scope) ms) ≡ false → (n : ℕ) → number_from n scope more ≡ Some n)
+        → ((list_any (scope_eq scope) ms ≡ false → (n : ℕ) → number_from n scope more ≡ Some n) → number_from (k + 1) scope (ms ++ more) ≡ Some (k + 1 + position_or_len (scope_eq scope) ms))
+        → cond (scope_eq m scope) (Some k) (number_from (k + 1) scope (ms ++ more)) ≡ Some (k + cond (not b) (1 + position_or_len (scope_eq scope) ms) 0)
+    by true e l rest = rw e (ap (λ n. Some n) (omega arith))
+    by false e l rest = rw e (rest l ∙ ap (λ n. Some n) (omega arith))
 
 -- the number of a meter once it is there
 pub meter_number : (scope : InstrumentationScope) (ms : List InstrumentationScope) (n : ℕ) → n ≡ position_or_len (scope_eq scope) ms → Some n ≡ number_from 0 scope (machine.with_meter scope ms)
 meter_number scope ms n e = ap (λ m. Some m) (e ∙ omega arith) ∙ sym (by (list_any (scope_eq scope) ms) refl)
   where
     by : (b : Bool) → list_any (scope_eq scope) ms ≡ b → number_from 0 scope (machine.with_meter scope ms) ≡ Some (0 + position_or_len (scope_eq scope) ms)
-    by true h = rw (has_scope-flip scope ms, h) (number_there scope 0 ms h)
-    by false h = rw (has_scope-flip scope ms, h) (number_last scope 0 ms)
+    by true h = rw (has_scope-flip scope ms, h) (ap (number_from 0 scope) (sym (append-nil ms)) ∙ number_at scope 0 ms [] (λ none. absurd (true≢false (sym h ∙ none))))
+    by false h = rw (has_scope-flip scope ms, h) (number_at scope 0 ms (scope ∷ []) (λ none n. rw ((scope_eq-Decides scope scope).1 refl) refl))
 
 -- ======== builds ========
 -- an instrument whose name, unit or bounds are bad has no scope
@@ -85,25 +63,16 @@ built-alike views scope about now true e p = refl
 built-alike views None about now false e p = refl
 built-alike views (Some scope) about now false e p = rw e refl
 
-all-alike : (views : Views) (scope : Option InstrumentationScope) (about : model.About) (now : ℕ) (b : Bool) → is_good about ≡ b → (ps : List ReaderPart) → map (machine.part_after_build views (cond b scope None) about now) ps ≡ map (machine.part_after_build views scope about now) ps
-all-alike views scope about now b e [] = refl
-all-alike views scope about now b e (p ∷ ps) = λ i. built-alike views scope about now b e p i ∷ all-alike views scope about now b e ps i
-
 -- a build sees what the views answer of the instrument, and no more
 all-asked : (views : Views) (scope : Option InstrumentationScope) (about : model.About) (now : ℕ) (answered : List (Option StreamSpec)) → AreAsked views scope about answered
     → (ps : List ReaderPart) → map (machine.part_after_build (views_answering answered) scope about now) ps ≡ map (machine.part_after_build views scope about now) ps
 all-asked views None about now answered asked ps = refl
-all-asked views (Some scope) about now answered asked [] = refl
-all-asked views (Some scope) about now answered asked (p ∷ ps) =
-    λ i. (ap (λ l. machine.part_after_build (views_answering l) (Some scope) about now p) asked ∙ built-answered views scope about now p) i ∷ all-asked views (Some scope) about now answered asked ps i
+all-asked views (Some scope) about now answered asked ps = λ i. map (λ p. (ap (λ l. machine.part_after_build (views_answering l) (Some scope) about now p) asked ∙ built-answered views scope about now p) i) ps
 
 -- ======== lent readers ========
 -- what was lent whole comes back whole
 pub lent_back : {X : Type 0} (n : ℕ) (ys zs : List X) → n ≡ length ys → take n (ys ++ zs) ≡ ys
-lent_back zero [] zs e = refl
-lent_back zero (y ∷ ys) zs e = absurd (omega arith)
-lent_back (suc n) [] zs e = absurd (omega arith)
-lent_back (suc n) (y ∷ ys) zs e = ap (λ xs. y ∷ xs) (lent_back n ys zs (omega arith))
+lent_back n ys zs e = ap (λ m. take m (ys ++ zs)) e ∙ take-append_seam ys zs
 
 -- so what was done to it while it was lent was done to it
 pub lent_as : {X : Type 0} (P : List X → List X → Type 0) (n : ℕ) (old lent new zs : List X) → n ≡ length new → lent ≡ old → P lent new → P old (take n (new ++ zs))
@@ -114,9 +83,7 @@ pub lent-parts : (n : ℕ) (ys zs : List Piped) (ps : List ReaderPart) → n ≡
 lent-parts n ys zs ps e is = ap (map part_of) (lent_back n ys zs e) ∙ is
 
 pub get-inside : {X : Type 0} (xs : List X) (n : ℕ) (x : X) → slice_get xs n ≡ Some x → n < length xs
-get-inside [] n x e = absurd (cc)
-get-inside (y ∷ xs) zero x e = omega arith
-get-inside (y ∷ xs) (suc n) x e = let q = get-inside xs n x e in omega arith
+get-inside xs n x e = slice_get_within xs n x e
 
 -- what was lent unchanged leaves the state unchanged
 pub unchanged : (old : State) (live : List LiveHandle) (n : ℕ) (lent new zs : List Piped) → n ≡ length new → live ≡ old.shared.live → map part_of lent ≡ old.readers → map part_of new ≡ map part_of lent
@@ -130,22 +97,13 @@ module _ (n : ℕ) (v : model.Number) (is shown : List InstrumentState) (same : 
   there = ap (λ l. slice_get l n) (sym same) ∙ taken.there
 
   pub taken-inside : n < length is
-  taken-inside = get-inside is n taken.instrument there
+  taken-inside = slice_get_within is n taken.instrument there
 
   -- it feeds streams of the value's number type
   pub taken-feeds : (ps lent : List Piped) → lent ≡ ps → AreTyped is (map part_of ps) → FeedType n v (map part_of lent)
   taken-feeds ps lent back typed = typed-feeds n v is taken.instrument (map part_of lent) there taken.typed (subst (λ qs. AreTyped is (map part_of qs)) (sym back) typed)
 
 -- ======== whole calls ========
-position-first : {X : Type 0} (p : X → Bool) (xs : List X) (n : ℕ) → position p xs ≡ Some n → n ≡ position_or_len p xs
-position-first p [] n e = absurd (cc)
-position-first p (x ∷ xs) n e = next (p x) (position p xs) (λ m q. position-first p xs m q) (sym (position-cons p x xs) ∙ e)
-  where
-    next : (b : Bool) (o : Option ℕ) → ((m : ℕ) → o ≡ Some m → m ≡ position_or_len p xs) → cond b (Some 0) (option_map suc o) ≡ Some n → n ≡ cond (not b) (1 + position_or_len p xs) 0
-    next true o rest q = let z : 0 ≡ n = cc in sym z
-    next false None rest q = absurd (cc)
-    next false (Some m) rest q = let z : suc m ≡ n = cc in let y = rest m refl in omega arith
-
 module _ (old : State) where
   -- a record that is accepted
   pub record-made : (n : ℕ) (v : model.Number) (l : List KeyValue) (more : List InstrumentState) (readers : List ReaderPart) → record_refusal (slice_get old.shared.instruments n) v.signed ≡ None
@@ -167,7 +125,7 @@ module _ (old : State) where
         ap model.Reply.Instrument number ∙ sym (ap (λ o. reply_by o (model.Reply.Instrument (length old.shared.instruments))) known),
         (λ i. record {
           shared = record old.shared { instruments = made i };
-          readers = (built ∙ (all-asked views named about now answered asked old.readers ∙ (ap (λ s. map (machine.part_after_build views s about now) old.readers) named_is ∙ (all-alike views scope about now (is_good about) refl old.readers ∙ ap (λ s. map (machine.part_after_build views s about now) old.readers) at.is)))) i;
+          readers = (built ∙ (all-asked views named about now answered asked old.readers ∙ (ap (λ s. map (machine.part_after_build views s about now) old.readers) named_is ∙ ((λ j. map (λ p. built-alike views scope about now (is_good about) refl p j) old.readers) ∙ ap (λ s. map (machine.part_after_build views s about now) old.readers) at.is)))) i;
         })
             ∙ sym (ap (λ o. after_by o old (machine.accepted_after views old (model.Call.Build meter about now))) known),
       )
@@ -203,8 +161,7 @@ module _ (old : State) where
   meter-known scope n opened at views =
       let ms : List InstrumentationScope = old.shared.meters in
       let there : list_any (scope_eq scope) ms ≡ true = sym (any-position (scope_eq scope) ms) ∙ ap is_some at in
-      let first : n ≡ position_or_len (scope_eq scope) ms = position-first (scope_eq scope) ms n at in
-      meter-made ms scope n opened first (sym (ap (λ b. cond b ms (ms ++ scope ∷ [])) (has_scope-flip scope ms ∙ there))) views
+      meter-made ms scope n opened (position-at (scope_eq scope) ms n scope at).0 (sym (ap (λ b. cond b ms (ms ++ scope ∷ [])) (has_scope-flip scope ms ∙ there))) views
 
 pub meter-unknown : (meters : List InstrumentationScope) (scope : InstrumentationScope) → position (scope_eq scope) meters ≡ None → has_scope scope meters ≡ false
 meter-unknown meters scope at = has_scope-flip scope meters ∙ (sym (any-position (scope_eq scope) meters) ∙ ap is_some at)

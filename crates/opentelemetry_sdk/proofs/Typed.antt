@@ -1,28 +1,26 @@
 -- What an instrument feeds has its number type, whatever is called.
 use Rattle.std.proofs.Common.{◌≡◌, ◌⊎◌, inl, inr, ⊎_elim, ℕ, zero, suc, Bool, true, false, cond, List, [], ◌∷◌, ◌++◌, map, length, get_or, ◌<◌, Option, Some, None, slice_get, refl, sym, ◌∙◌, ap, subst, arith}
-use Rattle.std.specs.Prelude.{All, filter, fold}
+use Rattle.std.specs.Prelude.{All, fold}
 use Rattle.std.proofs.lemmas.Bool.{false≢true}
 use Rattle.std.proofs.lemmas.List.{length-append}
 use Rattle.otel_stream.specs.declared.observation.Observed.{Observed as Observation}
 use Rattle.otel_common.specs.declared.scopes.InstrumentationScope.{InstrumentationScope}
 use Rattle.otel_model_stream.specs.Folds.{Amount}
 use Rattle.otel_model.specs.Calls.{is_observable, Fault, WrongKind, About, Call, Number}
-use Rattle.otel_model.specs.Demands.{Identity, Demand, ReaderAnswers, StreamSpec, Views, has_identity, instrument_of, add_answer, view_demands, demands_with, is_compatible, is_known, is_dropped, is_good, fed_identities, own_demand, identity_eq}
+use Rattle.otel_model.specs.Demands.{Identity, Demand, Views, has_identity, is_known, is_dropped, fed_identities, identity_eq}
 use Rattle.otel_model.specs.Machine.{changed_at, instrument_after_record, enter, new_instrument, part_after_demand, build_demands, part_after_build, part_after_call}
 use Rattle.otel_model.specs.Refusals.{first_fault, number_refusal, observation_refusal, observations_refusal}
 use Rattle.otel_model.specs.Sent.{is_fed}
 use Rattle.otel_model.specs.State.{InstrumentState, ReaderPart}
 use Rattle.otel_model.proofs.Gather.{identity_eq_true}
-use Rattle.otel_model.proofs.Feeding.{is_one, fed_demanded}
-use Rattle.otel_model.proofs.Amounts.{same_number}
+use Rattle.otel_model.proofs.Feeding.{is_one, demands_each, fed_demanded}
+use Rattle.otel_model.proofs.Amounts.{EachOf, each_at, each_map, each_weaker, same_number}
+use Rattle.otel_model.proofs.Single.{get_map, some_is}
 use Rattle.opentelemetry_sdk.specs.pipeline.Handles.{AreObservableFor}
 use Rattle.opentelemetry_sdk.specs.pipeline.Observations.{AreTypedFor}
-use Rattle.opentelemetry_sdk.specs.pipeline.Pipelines.{Piped, part_of}
+use Rattle.opentelemetry_sdk.specs.pipeline.Pipelines.{FeedsType, Piped, part_of}
 use Rattle.opentelemetry_sdk.specs.Correspondence.{observed_of}
 use Rattle.opentelemetry_sdk.specs.States.{IsTaken, IsTyped, AreTyped, FeedType}
-
-some_is : {X : Type 0} (a b : X) → Some a ≡ Some b → a ≡ b
-some_is a b e = cc
 
 -- ======== one instrument more ========
 -- what is fed was fed before by an instrument that was there, or is fed by the new one
@@ -41,50 +39,13 @@ same-feeds : (now : ℕ) (ds : List Demand) (p : ReaderPart) → (fold (part_aft
 same-feeds now [] p = refl
 same-feeds now (d ∷ ds) p = same-feeds now ds (part_after_demand now p d)
 
--- demands of one number type and kind
-abbrev OfType : About → List Demand → Type 0
-OfType about [] = Unit {0}
-OfType about (d ∷ ds) = ((d.identity.signed ≡ about.signed) × (d.identity.kind ≡ about.kind)) × OfType about ds
+-- whatever the views answer, demands have the number type and the kind of their instrument
+abbrev IsOfType : About → Identity → Type 0
+IsOfType about x = (x.signed ≡ about.signed) × (x.kind ≡ about.kind)
 
-typed-append : (about : About) (ds es : List Demand) → OfType about ds → OfType about es → OfType about (ds ++ es)
-typed-append about [] es all more = more
-typed-append about (d ∷ ds) es all more = (all.0, typed-append about ds es all.1 more)
-
-typed-filter : (about : About) (p : Demand → Bool) (ds : List Demand) → OfType about ds → OfType about (filter p ds)
-typed-filter about p [] all = tt
-typed-filter about p (d ∷ ds) all = by (p d) (typed-filter about p ds all.1)
-  where
-    by : (b : Bool) → OfType about (filter p ds) → OfType about (cond b (d ∷ filter p ds) (filter p ds))
-    by true rest = (all.0, rest)
-    by false rest = rest
-
-views-typed : (views : Views) (answers : ReaderAnswers) (scope : InstrumentationScope) (about : About) → OfType about (view_demands views answers scope about)
-views-typed [] answers scope about = tt
-views-typed (view ∷ views) answers scope about = by (view (instrument_of scope about)) (views-typed views answers scope about)
-  where
-    by : (o : Option StreamSpec) → OfType about (view_demands views answers scope about) → OfType about (add_answer answers scope about o (view_demands views answers scope about))
-    by None rest = rest
-    by (Some s) rest = ((refl, refl), rest)
-
--- whatever the views answer
-demands-typed : (views : Views) (scope : Option InstrumentationScope) (about : About) (p : ReaderPart) → OfType about (build_demands views p scope about)
-demands-typed views None about p = tt
-demands-typed views (Some scope) about p = by (is_good about)
-  where
-    own : (b : Bool) → OfType about (cond b (own_demand p.answers scope about ∷ []) [])
-    own true = ((refl, refl), tt)
-    own false = tt
-
-    by : (b : Bool) → OfType about (cond b (demands_with (λ ds. is_dropped (fold enter p.fates ds)) views p.answers scope about) [])
-    by true = typed-append about _ _ (typed-filter about is_compatible (view_demands views p.answers scope about) (views-typed views p.answers scope about)) (own _)
-    by false = tt
-
-known-typed : (about : About) (ds : List Demand) (x : Identity) → OfType about ds → is_known ds x ≡ true → (x.signed ≡ about.signed) × (x.kind ≡ about.kind)
+known-typed : (about : About) (ds : List Demand) (x : Identity) → EachOf (λ (d : Demand). IsOfType about d.identity) ds → is_known ds x ≡ true → IsOfType about x
 known-typed about [] x all e = absurd (false≢true e)
-known-typed about (d ∷ ds) x all e = ⊎_elim
-    (λ t. let is : d.identity ≡ x = identity_eq_true d.identity x t in (sym (ap (λ (y : Identity). y.signed) is) ∙ all.0.0, sym (ap (λ (y : Identity). y.kind) is) ∙ all.0.1))
-    (λ t. known-typed about ds x all.1 t)
-    (is_one (identity_eq d.identity x) (is_known ds x) e)
+known-typed about (d ∷ ds) x all e = ⊎_elim (λ t. subst (IsOfType about) (identity_eq_true d.identity x t) all.0) (λ t. known-typed about ds x all.1 t) (is_one (identity_eq d.identity x) (is_known ds x) e)
 
 one-built : (views : Views) (is : List InstrumentState) (scope : Option InstrumentationScope) (about : About) (now : ℕ) (p : ReaderPart) → IsTyped is p → IsTyped (is ++ new_instrument about ∷ []) (part_after_build views scope about now p)
 one-built views is scope about now p typed =
@@ -92,21 +53,18 @@ one-built views is scope about now p typed =
     let after : ReaderPart = fold (part_after_demand now) p ds in
     let new : List Identity = fed_identities (is_dropped after.fates) ds in
     let same : after.feeds ≡ p.feeds = same-feeds now ds p in
+    let of_type : (x : Identity) → has_identity new x ≡ true → IsOfType about x =
+    λ x h. known-typed about ds x (demands_each (λ (d : Demand). IsOfType about d.identity) (λ fs. is_dropped (fold enter p.fates fs)) views p.answers scope about (λ s e a. (refl, refl))) (fed_demanded (is_dropped after.fates) ds x h) in
+    let split = λ (n : ℕ) (x : Identity) (i : InstrumentState) (f : is_fed (after.feeds ++ new ∷ []) n x ≡ true) (g : slice_get (is ++ new_instrument about ∷ []) n ≡ Some i).
+    fed-split p.feeds new is (new_instrument about) n x i typed.as_many (subst (λ (fs : List (List Identity)). is_fed (fs ++ new ∷ []) n x ≡ true) same f) g in
     record {
       as_many = omega (arith, ap length same, typed.as_many, length-append {A = List Identity}, length-append {A = InstrumentState});
-      types = λ n x i f g. ⊎_elim
-          (λ t. typed.types n x i t.0 t.1)
-          (λ t. (known-typed about ds x (demands-typed views scope about p) (fed_demanded (is_dropped after.fates) ds x t.0)).0 ∙ ap (λ (j : InstrumentState). j.signed) t.1)
-          (fed-split p.feeds new is (new_instrument about) n x i typed.as_many (subst (λ (fs : List (List Identity)). is_fed (fs ++ new ∷ []) n x ≡ true) same f) g);
-      kinds = λ n x i f g. ⊎_elim
-          (λ t. typed.kinds n x i t.0 t.1)
-          (λ t. (known-typed about ds x (demands-typed views scope about p) (fed_demanded (is_dropped after.fates) ds x t.0)).1 ∙ ap (λ (j : InstrumentState). j.kind) t.1)
-          (fed-split p.feeds new is (new_instrument about) n x i typed.as_many (subst (λ (fs : List (List Identity)). is_fed (fs ++ new ∷ []) n x ≡ true) same f) g);
+      types = λ n x i f g. ⊎_elim (λ t. typed.types n x i t.0 t.1) (λ t. (of_type x t.0).0 ∙ ap (λ (j : InstrumentState). j.signed) t.1) (split n x i f g);
+      kinds = λ n x i f g. ⊎_elim (λ t. typed.kinds n x i t.0 t.1) (λ t. (of_type x t.0).1 ∙ ap (λ (j : InstrumentState). j.kind) t.1) (split n x i f g);
     }
 
 pub typed-built : (views : Views) (is : List InstrumentState) (scope : Option InstrumentationScope) (about : About) (now : ℕ) (ps : List ReaderPart) → AreTyped is ps → AreTyped (is ++ new_instrument about ∷ []) (map (part_after_build views scope about now) ps)
-typed-built views is scope about now [] all = tt
-typed-built views is scope about now (p ∷ ps) all = (one-built views is scope about now p all.0, typed-built views is scope about now ps all.1)
+typed-built views is scope about now ps all = each_map (IsTyped is) (IsTyped (is ++ new_instrument about ∷ [])) (part_after_build views scope about now) ps (one-built views is scope about now) all
 
 -- ======== records ========
 -- an instrument that accepts keeps its number type and kind
@@ -118,31 +76,25 @@ signed-accepted v (suc m) zero (j ∷ is) i e = (i, e, refl, refl)
 signed-accepted v (suc m) (suc n) (j ∷ is) i e = signed-accepted v m n is i e
 
 pub typed-sent : (v : Amount) (m next : ℕ) (c : Call) (is : List InstrumentState) (ps : List ReaderPart) → AreTyped is ps → AreTyped (changed_at m (instrument_after_record v) is) (map (part_after_call next c) ps)
-typed-sent v m next c is [] all = tt
-typed-sent v m next c is (p ∷ ps) all = (
-  record {
-    as_many = all.0.as_many ∙ sym (same_number m (instrument_after_record v) is);
-    types = λ n x i f g. let before = signed-accepted v m n is i g in all.0.types n x before.0 f before.1 ∙ before.2;
-    kinds = λ n x i f g. let before = signed-accepted v m n is i g in all.0.kinds n x before.0 f before.1 ∙ before.3;
-  },
-  typed-sent v m next c is ps all.1,
-)
+typed-sent v m next c is ps all = each_map (IsTyped is) _ (part_after_call next c) ps
+    (λ p typed. record {
+      as_many = typed.as_many ∙ sym (same_number m (instrument_after_record v) is);
+      types = λ n x i f g. let before = signed-accepted v m n is i g in typed.types n x before.0 f before.1 ∙ before.2;
+      kinds = λ n x i f g. let before = signed-accepted v m n is i g in typed.kinds n x before.0 f before.1 ∙ before.3;
+    })
+    all
 
 -- what is sent keeps number types and kinds
 pub typed-kept : (is : List InstrumentState) (next : ℕ) (c : Call) (ps : List ReaderPart) → AreTyped is ps → AreTyped is (map (part_after_call next c) ps)
-typed-kept is next c [] all = tt
-typed-kept is next c (p ∷ ps) all = (record { as_many = all.0.as_many; types = all.0.types; kinds = all.0.kinds }, typed-kept is next c ps all.1)
+typed-kept is next c ps all = each_map (IsTyped is) (IsTyped is) (part_after_call next c) ps (λ p typed. record { as_many = typed.as_many; types = typed.types; kinds = typed.kinds }) all
 
 -- what an instrument feeds, by its own number type
 pub typed-feeds : (n : ℕ) (v : Number) (is : List InstrumentState) (i : InstrumentState) (ps : List ReaderPart) → slice_get is n ≡ Some i → v.signed ≡ i.signed → AreTyped is ps → FeedType n v ps
-typed-feeds n v is i [] at same all = tt
-typed-feeds n v is i (p ∷ ps) at same all = (λ x f. all.0.types n x i f at ∙ sym same, typed-feeds n v is i ps at same all.1)
+typed-feeds n v is i ps at same all = each_weaker (IsTyped is) (FeedsType n v.signed) ps (λ p typed x f. typed.types n x i f at ∙ sym same) all
 
 -- ======== observations ========
 typed-at : (is : List InstrumentState) (ps : List Piped) (r : ℕ) (p : Piped) → slice_get ps r ≡ Some p → AreTyped is (map part_of ps) → IsTyped is (part_of p)
-typed-at is [] r p at all = absurd (cc)
-typed-at is (q ∷ ps) zero p at all = subst (λ (x : Piped). IsTyped is (part_of x)) (some_is q p at) all.0
-typed-at is (q ∷ ps) (suc r) p at all = typed-at is ps r p at all.1
+typed-at is ps r p at all = each_at (IsTyped is) (map part_of ps) r (part_of p) all (get_map part_of ps r p at)
 
 -- what was observed of instruments that take it is of the number type of what they feed
 pub typed-observed : (is : List InstrumentState) (ps : List Piped) (os : List Observation) (r : ℕ) (p : Piped) → slice_get ps r ≡ Some p → AreTyped is (map part_of ps) → All (IsTaken is) os → AreTypedFor os (part_of p)

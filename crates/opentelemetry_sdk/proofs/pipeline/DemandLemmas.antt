@@ -1,6 +1,7 @@
 -- What holds of the demands of an instrument.
-use Rattle.std.proofs.Common.{◌≡◌, ℤ, Bool, true, false, cond, ◌&&◌, List, Option, Some, None, refl}
+use Rattle.std.proofs.Common.{◌≡◌, ℕ, ℤ, Bool, true, false, cond, ◌&&◌, List, Option, Some, None, refl}
 use Rattle.std.specs.Prelude.{IfSome}
+use Rattle.std.specs.Option.{option_or, unwrap_or}
 use Rattle.std.proofs.lemmas.Bool.{and_parts}
 use Rattle.otel_common.specs.declared.metrics.Aggregation.{Aggregation}
 use Rattle.otel_common.specs.declared.metrics.Aggregation.TheVariants.{Default, ExplicitBucketHistogram}
@@ -18,6 +19,12 @@ demand_made answers scope about s d identity spelling aggregation allow limit = 
   allow = allow i;
   limit = limit i;
 }
+
+-- the first limit that is given
+pub limit-or : (set wanted : Option ℕ) (n : ℕ) → unwrap_or (option_or set wanted) n ≡ or_else set (or_else wanted n)
+limit-or (Some k) wanted n = refl
+limit-or None (Some k) n = refl
+limit-or None None n = refl
 
 -- ======== its aggregation is valid and fits ========
 kind_default-good : (kind : InstrumentKind) → (is_valid (kind_default kind) && fits kind (kind_default kind)) ≡ true

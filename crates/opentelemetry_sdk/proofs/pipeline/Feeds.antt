@@ -8,7 +8,7 @@ use Rattle.opentelemetry_sdk.specs.pipeline.Streams.{StreamContents}
 use Rattle.opentelemetry_sdk.proofs.pipeline.Records.{fed-named, fed-numbers, HaveStreams, identity_at-is, numbers-named}
 
 -- identities of streams that are there are as many as their numbers
-some-named : (ks : List StreamContents) (ns : List ℕ) → HaveStreams ns ks → some_stream (named_identities ks ns) ≡ some_stream ns
+pub some-named : (ks : List StreamContents) (ns : List ℕ) → HaveStreams ns ks → some_stream (named_identities ks ns) ≡ some_stream ns
 some-named ks [] all = refl
 some-named ks (n ∷ ns) all = ap (λ (xs : List Identity). some_stream (xs ++ named_identities ks ns)) (identity_at-is ks n all.0.0 all.0.1)
 

@@ -1,25 +1,34 @@
 -- The test of identities is equality, whichever stands first.
 use Rattle.std.proofs.Common.{◌≡◌, ℕ, zero, suc, Bool, true, false, ◌&&◌, List, [], ◌∷◌, Some, slice_get, position, refl, sym, ◌∙◌, ap, subst, option_map, true≢false, eq-eqb}
 use Rattle.std.specs.Bool.{beq, Decides}
-use Rattle.std.specs.List.{IsDistinct, AllByRecursion}
+use Rattle.std.specs.List.{IsDistinct}
 use Rattle.otel_common.specs.Equality.{bytes_eq}
-use Rattle.otel_common.specs.Scopes.{scope_eq}
+use Rattle.otel_common.specs.Scopes.{scope_eq, scope_eq-Decides}
+use Rattle.otel_common.specs.declared.scopes.InstrumentationScope.{InstrumentationScope}
 use Rattle.otel_model.specs.Calls.{InstrumentKind, kind_eq, kind_number}
 use Rattle.std.proofs.lemmas.Option.{slice_get-map}
 use Rattle.otel_model.specs.Demands.{Identity, identity_eq}
+use Rattle.otel_model.proofs.Amounts.{each_at}
 use Rattle.otel_model.proofs.Gather.{kind_eq_true, identity_eq_true, identity_eq_self}
+use Rattle.otel_model.proofs.Single.{some_is}
 use Rattle.opentelemetry_sdk.specs.pipeline.Pipelines.{identity_of, stream_identities}
 use Rattle.opentelemetry_sdk.specs.pipeline.Streams.{StreamContents}
 
 -- the same answer, with the two turned round
-pub test-flip : (x y : Identity) → identity_eq y x ≡ identity_eq x y
-test-flip x y = by (identity_eq y x) (identity_eq x y) refl refl
+flip : {X : Type 0} (eq : X → X → Bool) → ((x y : X) → eq x y ≡ true → x ≡ y) → ((x : X) → eq x x ≡ true) → (x y : X) → eq x y ≡ eq y x
+flip eq is self x y = by (eq x y) (eq y x) refl refl
   where
-    by : (a b : Bool) → identity_eq y x ≡ a → identity_eq x y ≡ b → a ≡ b
+    by : (a b : Bool) → eq x y ≡ a → eq y x ≡ b → a ≡ b
     by true true p q = refl
     by false false p q = refl
-    by true false p q = sym (ap (λ z. identity_eq z y) (sym (identity_eq_true y x p)) ∙ identity_eq_self y) ∙ q
-    by false true p q = sym p ∙ (ap (λ z. identity_eq z x) (sym (identity_eq_true x y q)) ∙ identity_eq_self x)
+    by true false p q = sym (ap (λ z. eq z x) (sym (is x y p)) ∙ self x) ∙ q
+    by false true p q = sym p ∙ (ap (λ z. eq z y) (sym (is y x q)) ∙ self y)
+
+pub test-flip : (x y : Identity) → identity_eq y x ≡ identity_eq x y
+test-flip x y = flip identity_eq identity_eq_true identity_eq_self y x
+
+pub scope-flip : (x y : InstrumentationScope) → scope_eq x y ≡ scope_eq y x
+scope-flip x y = flip scope_eq (λ a b. (scope_eq-Decides a b).0) (λ a. (scope_eq-Decides a a).1 refl) x y
 
 -- a test of kinds that decides equality is the one of their numbers, and so of identities
 module _ (same : InstrumentKind → InstrumentKind → Bool) (law : (x y : InstrumentKind) → Decides (same x y) (x ≡ y)) where
@@ -48,20 +57,15 @@ module _ (same : InstrumentKind → InstrumentKind → Bool) (law : (x y : Instr
   pub position-same : (x : Identity) (xs : List Identity) → position (test_of x) xs ≡ position (identity_eq x) xs
   position-same x xs = ap (λ (t : Identity → Identity → Bool). position (t x) xs) test-same
 
-some_is : (a b : Identity) → Some a ≡ Some b → a ≡ b
-some_is a b e = cc
-
-not_among : (x : Identity) (xs : List Identity) → AllByRecursion (λ y. identity_eq x y ≡ false) xs → (j : ℕ) (y : Identity) → slice_get xs j ≡ Some y → x ≡ y → ⊥
-not_among x [] all j y q e = cc
-not_among x (z ∷ xs) all zero y q e = true≢false (sym (ap (identity_eq x) (some_is z y q ∙ sym e) ∙ identity_eq_self x) ∙ all.0)
-not_among x (z ∷ xs) all (suc j) y q e = not_among x xs all.1 j y q e
+not_among : (x y : Identity) → x ≡ y → identity_eq x y ≡ false → ⊥
+not_among x y e other = true≢false (sym (ap (identity_eq x) (sym e) ∙ identity_eq_self x) ∙ other)
 
 apart_by : (xs : List Identity) → IsDistinct identity_eq xs → (i j : ℕ) (x y : Identity) → slice_get xs i ≡ Some x → slice_get xs j ≡ Some y → x ≡ y → i ≡ j
 unfolding IsDistinct
 apart_by [] distinct i j x y p q e = absurd (cc)
 apart_by (z ∷ xs) distinct zero zero x y p q e = refl
-apart_by (z ∷ xs) distinct zero (suc j) x y p q e = absurd (not_among z xs distinct.0 j y q (some_is z x p ∙ e))
-apart_by (z ∷ xs) distinct (suc i) zero x y p q e = absurd (not_among z xs distinct.0 i x p (some_is z y q ∙ sym e))
+apart_by (z ∷ xs) distinct zero (suc j) x y p q e = absurd (not_among z y (some_is z x p ∙ e) (each_at _ xs j y distinct.0 q))
+apart_by (z ∷ xs) distinct (suc i) zero x y p q e = absurd (not_among z x (some_is z y q ∙ sym e) (each_at _ xs i x distinct.0 p))
 apart_by (z ∷ xs) distinct (suc i) (suc j) x y p q e = ap suc (apart_by xs distinct.1 i j x y p q e)
 
 -- no identity stands twice among the streams

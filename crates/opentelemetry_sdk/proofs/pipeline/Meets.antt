@@ -1,7 +1,9 @@
 -- What meets demands, one after another.
 use Rattle.std.proofs.Common.{◌≡◌, ℕ, zero, suc, ◌<◌, Bool, true, false, cond, not, ◌||◌, List, [], ◌∷◌, ◌++◌, map, filter, fold, length, Some, None, slice_get, refl, sym, ◌∙◌, ap, subst, arith, append_assoc, true≢false}
-use Rattle.std.specs.Prelude.{is_some, take, All, ◌&&◌}
-use Rattle.std.proofs.Math.Bool.{or-false, or_assoc}
+use Rattle.std.specs.Prelude.{is_some, take, All}
+use Rattle.std.proofs.Math.Bool.{or-false, or-true, or_assoc, or_comm}
+use Rattle.std.proofs.lemmas.Grind.{common_steps}
+use Rattle.std.proofs.lemmas.Map.Views.{any-filter_same}
 use Rattle.std.proofs.lemmas.Option.{slice_get_within}
 use Rattle.std.specs.List.{list_any, IsDistinct, AllByRecursion}
 use Rattle.std.proofs.lemmas.List.{append-nil, map-append, length-append}
@@ -12,10 +14,13 @@ use Rattle.otel_model.specs.Demands as model
 use Rattle.otel_model.specs.Demands.{Identity, Demand, ReaderAnswers, identity_eq}
 use Rattle.otel_model.specs.State.{ReaderPart}
 use Rattle.otel_model.specs.Machine as machine
+use Rattle.otel_model.proofs.Alike.{fate_stays}
+use Rattle.otel_model.proofs.Feeding.{or_right}
 use Rattle.otel_model.proofs.Gather.{identity_eq_true, identity_eq_self, known-append}
-use Rattle.opentelemetry_sdk.specs.pipeline.Pipelines.{Piped, AreFedOnce, AreMet, AreNumbers, IsLonger, IsMetBy, part_of, part_by, identity_at, named_identities, identity_of, fates_of, is_streamed, model_streams, stream_identities, stream_number, drops_at, fed_once}
+use Rattle.otel_model.proofs.Single.{get_map, some_is}
+use Rattle.opentelemetry_sdk.specs.pipeline.Pipelines.{Piped, AreFedOnce, AreMet, AreNumbers, IsLonger, IsMetBy, part_of, part_by, identity_at, named_identities, identity_of, fates_of, is_streamed, model_streams, some_stream, stream_identities, stream_number, fed_once}
 use Rattle.opentelemetry_sdk.specs.pipeline.Streams.{StreamContents, new_contents}
-use Rattle.opentelemetry_sdk.proofs.pipeline.Builds.{found, known, fate-new, drops-is}
+use Rattle.opentelemetry_sdk.proofs.pipeline.Builds.{found, known, fate-at}
 use Rattle.opentelemetry_sdk.proofs.pipeline.Identities.{are_apart}
 use Rattle.opentelemetry_sdk.proofs.pipeline.Once.{once-push}
 use Rattle.opentelemetry_sdk.proofs.pipeline.Records.{HaveStreams, identity_at-is, numbers-named, named-has}
@@ -33,29 +38,15 @@ has-same xs x y e = ap (has xs) (identity_eq_true y x e)
 
 -- one identity more
 each-push : (seen xs : List Identity) (x : Identity) → model.each_once seen (xs ++ x ∷ []) ≡ model.each_once seen xs ++ cond (has seen x || has xs x) [] (x ∷ [])
-each-push seen [] x = by (has seen x)
+each-push seen [] x = ap (λ b. cond b [] (x ∷ [])) (sym (or-false (has seen x)))
+each-push seen (y ∷ xs) x = by (has seen y) (identity_eq y x) refl refl (λ s. each-push s xs x)
   where
-    by : (b : Bool) → cond b [] (x ∷ []) ≡ cond (b || false) [] (x ∷ [])
-    by true = refl
-    by false = refl
-each-push seen (y ∷ xs) x = by (has seen y) refl (λ s. each-push s xs x)
-  where
-    or_in : (s e h : Bool) → (e ≡ true → s ≡ true) → (s || h) ≡ (s || (e || h))
-    or_in true e h f = refl
-    or_in false true h f = absurd (true≢false (sym (f refl)))
-    or_in false false h f = refl
-
-    turn : (s e h : Bool) → ((e || s) || h) ≡ (s || (e || h))
-    turn true true h = refl
-    turn false true h = refl
-    turn s e h = refl
-
-    by : (b : Bool) → has seen y ≡ b
-        → ((s : List Identity) → model.each_once s (xs ++ x ∷ []) ≡ model.each_once s xs ++ cond (has s x || has xs x) [] (x ∷ []))
+    by : (b e : Bool) → has seen y ≡ b → identity_eq y x ≡ e → ((s : List Identity) → model.each_once s (xs ++ x ∷ []) ≡ model.each_once s xs ++ cond (has s x || has xs x) [] (x ∷ []))
         → cond b (model.each_once seen (xs ++ x ∷ [])) (y ∷ model.each_once (y ∷ seen) (xs ++ x ∷ []))
-        ≡ cond b (model.each_once seen xs) (y ∷ model.each_once (y ∷ seen) xs) ++ cond (has seen x || (identity_eq y x || has xs x)) [] (x ∷ [])
-    by true t rest = rest seen ∙ ap (λ c. model.each_once seen xs ++ cond c [] (x ∷ [])) (or_in (has seen x) (identity_eq y x) (has xs x) (λ e. sym (has-same seen x y e) ∙ t))
-    by false f rest = ap (λ l. y ∷ l) (rest (y ∷ seen) ∙ ap (λ c. model.each_once (y ∷ seen) xs ++ cond c [] (x ∷ [])) (turn (has seen x) (identity_eq y x) (has xs x)))
+        ≡ cond b (model.each_once seen xs) (y ∷ model.each_once (y ∷ seen) xs) ++ cond (has seen x || (e || has xs x)) [] (x ∷ [])
+    by true true h q rest = rest seen ∙ ap (λ c. model.each_once seen xs ++ cond c [] (x ∷ [])) (ap (λ c. c || has xs x) (sym (has-same seen x y q) ∙ h) ∙ sym (or-true (has seen x)))
+    by true false h q rest = rest seen
+    by false e h q rest = ap (λ l. y ∷ l) (rest (y ∷ seen) ∙ ap (λ c. model.each_once (y ∷ seen) xs ++ cond c [] (x ∷ [])) ((λ i. or_comm (q i) (has seen x) i || has xs x) ∙ or_assoc (has seen x) e (has xs x)))
 
 -- what is fed, with one demand more
 fed-push : (q : Identity → Bool) (ds : List Demand) (d : Demand) → model.fed_identities q (ds ++ d ∷ []) ≡ model.fed_identities q ds ++ cond (q d.identity || has (ids ds) d.identity) [] (d.identity ∷ [])
@@ -63,128 +54,75 @@ fed-push q ds d =
     ap (λ xs. filter (λ x. not (q x)) (model.each_once [] xs)) (map-append (λ (d : Demand). d.identity) ds (d ∷ []))
     ∙ (ap (filter (λ x. not (q x))) (each-push [] (ids ds) d.identity)
     ∙ (filter-append (λ x. not (q x)) (model.each_once [] (ids ds)) (cond (has (ids ds) d.identity) [] (d.identity ∷ []))
-    ∙ ap (λ l. model.fed_identities q ds ++ l) (by (has (ids ds) d.identity) (q d.identity))))
+    ∙ ap (λ l. model.fed_identities q ds ++ l) (by (has (ids ds) d.identity) (q d.identity) refl)))
   where
-    kept : (c : Bool) → cond (not c) (d.identity ∷ []) [] ≡ cond (c || false) [] (d.identity ∷ [])
-    kept true = refl
-    kept false = refl
+    by : (b c : Bool) → q d.identity ≡ c → filter (λ x. not (q x)) (cond b [] (d.identity ∷ [])) ≡ cond (c || b) [] (d.identity ∷ [])
+    by true true e = refl
+    by true false e = refl
+    by false true e = rw e refl
+    by false false e = rw e refl
 
-    gone : (c : Bool) → [] ≡ cond (c || true) [] (d.identity ∷ [])
-    gone true = refl
-    gone false = refl
-
-    by : (b c : Bool) → filter (λ x. not (q x)) (cond b [] (d.identity ∷ [])) ≡ cond (q d.identity || b) [] (d.identity ∷ [])
-    by true c = gone (q d.identity)
-    by false c = kept (q d.identity)
-
-or_true : (b c : Bool) → c ≡ true → (b || c) ≡ true
-or_true true c q = refl
-or_true false c q = q
-
--- what is kept of these identities, each once
-abbrev kept_once : (Identity → Bool) → List Identity → List Identity → List Identity
-kept_once q seen xs = filter (λ y. not (q y)) (model.each_once seen xs)
-
-module _ (q : Identity → Bool) (x : Identity) (kept : q x ≡ false) where
-  skipped : (e h s : Bool) → (e ≡ true → s ≡ true) → (h || s) ≡ ((e || h) || s)
-  skipped true true s f = refl
-  skipped true false s f = f refl
-  skipped false h s f = refl
-
-  without : (e a b s : Bool) → e ≡ false → (a || (e || s)) ≡ (b || (e || s)) → (a || s) ≡ ((e || b) || s)
-  without true a b s f h = absurd (true≢false f)
-  without false a b s f h = h
-
-  with_it : (e a b s : Bool) → (a || (e || s)) ≡ (b || (e || s)) → ((e || a) || s) ≡ ((e || b) || s)
-  with_it true a b s h = refl
-  with_it false a b s h = h
-
-  other : (y : Identity) → q y ≡ true → (e : Bool) → identity_eq y x ≡ e → e ≡ false
-  other y t true e = absurd (true≢false (sym t ∙ (ap q (identity_eq_true y x e) ∙ kept)))
-  other y t false e = refl
-
-  kept_by : (seen xs : List Identity) (y : Identity) (b c : Bool) → has seen y ≡ b → q y ≡ c
-      → ((s : List Identity) → (has (kept_once q s xs) x || has s x) ≡ (has xs x || has s x))
-      → (has (filter (λ y. not (q y)) (cond b (model.each_once seen xs) (y ∷ model.each_once (y ∷ seen) xs))) x || has seen x) ≡ ((identity_eq y x || has xs x) || has seen x)
-  kept_by seen xs y true c t f rest = rest seen ∙ skipped (identity_eq y x) (has xs x) (has seen x) (λ e. sym (has-same seen x y e) ∙ t)
-  kept_by seen xs y false true t f rest =
-      ap (λ b. has (cond (not b) (y ∷ kept_once q (y ∷ seen) xs) (kept_once q (y ∷ seen) xs)) x || has seen x) f
-      ∙ without (identity_eq y x) (has (kept_once q (y ∷ seen) xs) x) (has xs x) (has seen x) (other y f (identity_eq y x) refl) (rest (y ∷ seen))
-  kept_by seen xs y false false t f rest =
-      ap (λ b. has (cond (not b) (y ∷ kept_once q (y ∷ seen) xs) (kept_once q (y ∷ seen) xs)) x || has seen x) f
-      ∙ with_it (identity_eq y x) (has (kept_once q (y ∷ seen) xs) x) (has xs x) (has seen x) (rest (y ∷ seen))
-
-  kept_has : (seen xs : List Identity) → (has (kept_once q seen xs) x || has seen x) ≡ (has xs x || has seen x)
-  kept_has seen [] = refl
-  kept_has seen (y ∷ xs) = kept_by seen xs y (has seen y) (q y) refl refl (λ s. kept_has s xs)
+each-has : (seen xs : List Identity) (x : Identity) → (has (model.each_once seen xs) x || has seen x) ≡ (has xs x || has seen x)
+each-has seen [] x = refl
+each-has seen (y ∷ xs) x = by (has seen y) (identity_eq y x) refl refl (λ s. each-has s xs x)
+  where
+    by : (b e : Bool) → has seen y ≡ b → identity_eq y x ≡ e → ((s : List Identity) → (has (model.each_once s xs) x || has s x) ≡ (has xs x || has s x))
+        → (has (cond b (model.each_once seen xs) (y ∷ model.each_once (y ∷ seen) xs)) x || has seen x) ≡ ((identity_eq y x || has xs x) || has seen x)
+    by true true h q rest = rw (sym (has-same seen x y q) ∙ h, or-true, or-true)
+    by true false h q rest = rw q (rest seen)
+    by false e h q rest = let more = rest (y ∷ seen) in grind (arith, common_steps, more)
 
 -- an identity that is not dropped is fed exactly if it is demanded
 fed-has : (q : Identity → Bool) (ds : List Demand) (x : Identity) → q x ≡ false → has (model.fed_identities q ds) x ≡ has (ids ds) x
-fed-has q ds x kept = sym (or-false (has (model.fed_identities q ds) x)) ∙ (kept_has q x kept [] (ids ds) ∙ or-false (has (ids ds) x))
+fed-has q ds x kept =
+    any-filter_same (λ y. identity_eq y x) (λ y. not (q y)) true (λ y e. ap (λ z. not (q z)) (identity_eq_true y x e) ∙ ap not kept) (model.each_once [] (ids ds))
+    ∙ (sym (or-false (has (model.each_once [] (ids ds)) x)) ∙ (each-has [] (ids ds) x ∙ or-false (has (ids ds) x)))
+
+-- what passes a test is kept once, whether it is tested before or after
+once-passed : (p : Identity → Bool) (seen also xs : List Identity) → ((y : Identity) → p y ≡ true → has seen y ≡ has also y) → filter p (model.each_once seen xs) ≡ model.each_once also (filter p xs)
+once-passed p seen also [] same = refl
+once-passed p seen also (y ∷ xs) same = by (has seen y) (p y) refl refl (λ s t. once-passed p s t xs)
+  where
+    other : (z : Identity) → p y ≡ false → p z ≡ true → (b : Bool) → identity_eq y z ≡ b → (b || has seen z) ≡ has also z
+    other z k q true e = absurd (true≢false (sym q ∙ ap p (sym (identity_eq_true y z e)) ∙ k))
+    other z k q false e = same z q
+
+    by : (b c : Bool) → has seen y ≡ b → p y ≡ c → ((s t : List Identity) → ((y : Identity) → p y ≡ true → has s y ≡ has t y) → filter p (model.each_once s xs) ≡ model.each_once t (filter p xs))
+        → filter p (cond b (model.each_once seen xs) (y ∷ model.each_once (y ∷ seen) xs)) ≡ model.each_once also (cond c (y ∷ filter p xs) (filter p xs))
+    by true true h k rest = rw (← same y k, h) (rest seen also same)
+    by false true h k rest = rw (← same y k, h, k) (ap (λ l. y ∷ l) (rest (y ∷ seen) (y ∷ also) (λ z q. ap (λ b. identity_eq y z || b) (same z q))))
+    by true false h k rest = rest seen also same
+    by false false h k rest = rw k (rest (y ∷ seen) also (λ z q. other z k q (identity_eq y z) refl))
+
+fed-is : (q : Identity → Bool) (ds : List Demand) → model.fed_identities q ds ≡ model.each_once [] (filter (λ y. not (q y)) (ids ds))
+fed-is q ds = once-passed (λ y. not (q y)) [] [] (ids ds) (λ y e. refl)
 
 -- two that drop the same of what is demanded
-kept-same : (p q : Identity → Bool) (seen xs : List Identity) → ((y : Identity) → has xs y ≡ true → p y ≡ q y) → kept_once p seen xs ≡ kept_once q seen xs
-kept-same p q seen [] same = refl
-kept-same p q seen (y ∷ xs) same =
-    by (has seen y) (same y (ap (λ b. b || has xs y) (identity_eq_self y))) (λ s. kept-same p q s xs (λ z h. same z (or_true (identity_eq y z) (has xs z) h)))
-  where
-    by : (b : Bool) → p y ≡ q y → ((s : List Identity) → kept_once p s xs ≡ kept_once q s xs)
-        → filter (λ x. not (p x)) (cond b (model.each_once seen xs) (y ∷ model.each_once (y ∷ seen) xs)) ≡ filter (λ x. not (q x)) (cond b (model.each_once seen xs) (y ∷ model.each_once (y ∷ seen) xs))
-    by true here rest = rest seen
-    by false here rest = λ i. cond (not (here i)) (y ∷ rest (y ∷ seen) i) (rest (y ∷ seen) i)
-
 fed-same : (p q : Identity → Bool) (ds : List Demand) → ((y : Identity) → has (ids ds) y ≡ true → p y ≡ q y) → model.fed_identities p ds ≡ model.fed_identities q ds
-fed-same p q ds same = kept-same p q [] (ids ds) same
-
--- whether there is no identity
-abbrev pub no_identity : List Identity → Bool
-no_identity [] = true
-no_identity (x ∷ xs) = false
-
--- nothing is fed exactly if all that is demanded drops
-kept-empty : (q : Identity → Bool) (seen xs : List Identity) → (no_identity (kept_once q seen xs) && not (list_any (λ x. not (q x)) seen)) ≡ (not (list_any (λ x. not (q x)) xs) && not (list_any (λ x. not (q x)) seen))
-kept-empty q seen [] = refl
-kept-empty q seen (y ∷ xs) = by (has seen y) (q y) refl refl (λ s. kept-empty q s xs)
+fed-same p q ds same = fed-is p ds ∙ (ap (model.each_once []) (kept (ids ds) same) ∙ sym (fed-is q ds))
   where
-    seen-undropped : (zs : List Identity) → has zs y ≡ true → q y ≡ false → list_any (λ x. not (q x)) zs ≡ true
-    seen-undropped [] t f = absurd (true≢false (sym t))
-    seen-undropped (z ∷ zs) t f = go (identity_eq z y) refl t (λ r. seen-undropped zs r f)
+    kept : (xs : List Identity) → ((y : Identity) → has xs y ≡ true → p y ≡ q y) → filter (λ y. not (p y)) xs ≡ filter (λ y. not (q y)) xs
+    kept [] same = refl
+    kept (y ∷ xs) same =
+        let rest = kept xs (λ z h. same z (or_right (identity_eq y z) (has xs z) h)) in
+        λ i. cond (not (same y (ap (λ b. b || has xs y) (identity_eq_self y)) i)) (y ∷ rest i) (rest i)
+
+-- something is fed exactly if something that is demanded doesn't drop
+pub fed-some : (q : Identity → Bool) (ds : List Demand) → some_stream (model.fed_identities q ds) ≡ list_any (λ (d : Demand). not (q d.identity)) ds
+fed-some q ds = ap some_stream (fed-is q ds) ∙ (first (filter (λ y. not (q y)) (ids ds)) ∙ any ds)
+  where
+    first : (xs : List Identity) → some_stream (model.each_once [] xs) ≡ some_stream xs
+    first [] = refl
+    first (x ∷ xs) = refl
+
+    any : (ds : List Demand) → some_stream (filter (λ y. not (q y)) (ids ds)) ≡ list_any (λ (d : Demand). not (q d.identity)) ds
+    any [] = refl
+    any (d ∷ ds) = by (not (q d.identity)) (any ds)
       where
-        go : (e : Bool) → identity_eq z y ≡ e → (e || has zs y) ≡ true → (has zs y ≡ true → list_any (λ x. not (q x)) zs ≡ true) → (not (q z) || list_any (λ x. not (q x)) zs) ≡ true
-        go true s r rest = ap (λ b. not b || list_any (λ x. not (q x)) zs) (ap q (identity_eq_true z y s) ∙ f)
-        go false s r rest = or_true (not (q z)) (list_any (λ x. not (q x)) zs) (rest r)
-
-    last-false : (a b s : Bool) → s ≡ true → (a && not s) ≡ (b && not s)
-    last-false true true s e = refl
-    last-false false false s e = refl
-    last-false true false s e = ap not e
-    last-false false true s e = sym (ap not e)
-
-    by : (b c : Bool) → has seen y ≡ b → q y ≡ c
-        → ((s : List Identity) → (no_identity (kept_once q s xs) && not (list_any (λ x. not (q x)) s)) ≡ (not (list_any (λ x. not (q x)) xs) && not (list_any (λ x. not (q x)) s)))
-        → (no_identity (filter (λ y. not (q y)) (cond b (model.each_once seen xs) (y ∷ model.each_once (y ∷ seen) xs))) && not (list_any (λ x. not (q x)) seen))
-        ≡ (not (not (q y) || list_any (λ x. not (q x)) xs) && not (list_any (λ x. not (q x)) seen))
-    by true true t f rest = rest seen ∙ ap (λ b. not (not b || list_any (λ x. not (q x)) xs) && not (list_any (λ x. not (q x)) seen)) (sym f)
-    by true false t f rest = last-false _ _ (list_any (λ x. not (q x)) seen) (seen-undropped seen t f)
-    by false true t f rest =
-        ap (λ b. no_identity (cond (not b) (y ∷ kept_once q (y ∷ seen) xs) (kept_once q (y ∷ seen) xs)) && not (list_any (λ x. not (q x)) seen)) f
-        ∙ ((ap (λ b. no_identity (kept_once q (y ∷ seen) xs) && not (not b || list_any (λ x. not (q x)) seen)) (sym f)
-        ∙ (rest (y ∷ seen) ∙ ap (λ b. not (list_any (λ x. not (q x)) xs) && not (not b || list_any (λ x. not (q x)) seen)) f))
-        ∙ ap (λ b. not (not b || list_any (λ x. not (q x)) xs) && not (list_any (λ x. not (q x)) seen)) (sym f))
-    by false false t f rest =
-        ap (λ b. no_identity (cond (not b) (y ∷ kept_once q (y ∷ seen) xs) (kept_once q (y ∷ seen) xs)) && not (list_any (λ x. not (q x)) seen)) f
-        ∙ ap (λ b. not (not b || list_any (λ x. not (q x)) xs) && not (list_any (λ x. not (q x)) seen)) (sym f)
-
-pub fed-empty : (q : Identity → Bool) (ds : List Demand) → no_identity (model.fed_identities q ds) ≡ not (list_any (λ (d : Demand). not (q d.identity)) ds)
-fed-empty q ds = sym (and_true (no_identity (model.fed_identities q ds))) ∙ (kept-empty q [] (ids ds) ∙ (and_true (not (list_any (λ x. not (q x)) (ids ds))) ∙ ap not (among ds)))
-  where
-    and_true : (b : Bool) → (b && true) ≡ b
-    and_true true = refl
-    and_true false = refl
-
-    among : (ds : List Demand) → list_any (λ x. not (q x)) (ids ds) ≡ list_any (λ (d : Demand). not (q d.identity)) ds
-    among [] = refl
-    among (d ∷ ds) = ap (λ b. not (q d.identity) || b) (among ds)
+        by : (b : Bool) → some_stream (filter (λ y. not (q y)) (ids ds)) ≡ list_any (λ (d : Demand). not (q d.identity)) ds
+            → some_stream (cond b (d.identity ∷ filter (λ y. not (q y)) (ids ds)) (filter (λ y. not (q y)) (ids ds))) ≡ (b || list_any (λ (d : Demand). not (q d.identity)) ds)
+        by true rest = refl
+        by false rest = rest
 
 -- ======== the table of fates ========
 -- what is known once these demands are entered
@@ -192,9 +130,8 @@ enter-known : (fs : List Demand) (d : Demand) (y : Identity) → model.is_known 
 enter-known fs d y = by (model.is_known fs d.identity) refl
   where
     within : (k e : Bool) → (e ≡ true → k ≡ true) → k ≡ (k || e)
-    within true e f = refl
-    within false true f = f refl
-    within false false f = refl
+    within k true f = f refl ∙ sym (or-true k)
+    within k false f = sym (or-false k)
 
     by : (b : Bool) → model.is_known fs d.identity ≡ b → model.is_known (cond b fs (fs ++ d ∷ [])) y ≡ (model.is_known fs y || identity_eq d.identity y)
     by true t = within (model.is_known fs y) (identity_eq d.identity y) (λ e. ap (model.is_known fs) (sym (identity_eq_true d.identity y e)) ∙ t)
@@ -205,16 +142,6 @@ entered-known fs [] y = sym (or-false (model.is_known fs y))
 entered-known fs (d ∷ ds) y =
     entered-known (machine.enter fs d) ds y
     ∙ (ap (λ b. b || has (ids ds) y) (enter-known fs d y) ∙ or_assoc (model.is_known fs y) (identity_eq d.identity y) (has (ids ds) y))
-
--- a longer table gives what is known the same fate
-fate-known : (fs ms : List Demand) (y : Identity) → model.is_known fs y ≡ true → model.is_dropped (fs ++ ms) y ≡ model.is_dropped fs y
-fate-known [] ms y e = absurd (true≢false (sym e))
-fate-known (d ∷ fs) ms y e = by (identity_eq d.identity y) e (λ k. fate-known fs ms y k)
-  where
-    by : (b : Bool) → (b || model.is_known fs y) ≡ true → (model.is_known fs y ≡ true → model.is_dropped (fs ++ ms) y ≡ model.is_dropped fs y)
-        → model.is_drop_fate (cond b (Some d) (model.fate_of (fs ++ ms) y)) ≡ model.is_drop_fate (cond b (Some d) (model.fate_of fs y))
-    by true k rest = refl
-    by false k rest = rest k
 
 -- ======== parts ========
 -- the fates of a part after demands
@@ -323,13 +250,7 @@ met-new now d resets p e numbers = record {
   longer = record { added = fresh ∷ []; fed = []; answers = refl; streams = refl; feeds = sym (append-nil p.feeds) };
   part = demanded-new now p.answers p.streams p.feeds d resets numbers unknown;
   hash_seed = refl;
-  at = record {
-    held = fresh;
-    at = get-last p.streams fresh;
-    is = refl;
-    drops = ap (λ fs. model.is_dropped fs d.identity) (map-append (λ (k : StreamContents). k.stream.demand) p.streams (fresh ∷ []))
-        ∙ (fate-new (fates_of p.streams) d unknown ∙ sym (drops-is (p.streams ++ fresh ∷ []) (length p.streams) fresh (get-last p.streams fresh)));
-  };
+  at = get_map identity_of (p.streams ++ fresh ∷ []) (length p.streams) fresh (get-last p.streams fresh);
 }
   where
     fresh : StreamContents
@@ -359,7 +280,7 @@ pub met-none : (now : ℕ) (p : Piped) → AreMet now [] p p []
 met-none now p = record { part = refl; hash_seed = refl; numbers = λ j n h. absurd (omega arith); once = tt; named = refl }
 
 -- one demand more
-module _ (now : ℕ) (ds : List Demand) (d : Demand) (first old new : Piped) (n : ℕ) (feeds : List ℕ) (was : AreMet now ds first old feeds) (by : IsMetBy now d old new n) where
+module _ (now : ℕ) (ds : List Demand) (d : Demand) (first old new : Piped) (n : ℕ) (feeds : List ℕ) (was : AreMet now ds first old feeds) (by : IsMetBy now d old new n) (k : StreamContents) (at : slice_get new.streams n ≡ Some k) where
   abbrev dropped : Identity → Bool
   dropped = model.is_dropped (fates_of new.streams)
 
@@ -371,13 +292,13 @@ module _ (now : ℕ) (ds : List Demand) (d : Demand) (first old new : Piped) (n 
   known-demanded y h =
       ap (λ (p : ReaderPart). model.is_known p.fates y) was.part
       ∙ (ap (λ fs. model.is_known fs y) (demanded-fates now (part_of first) ds)
-      ∙ (entered-known (fates_of first.streams) ds y ∙ or_true (model.is_known (fates_of first.streams) y) (has (ids ds) y) h))
+      ∙ (entered-known (fates_of first.streams) ds y ∙ or_right (model.is_known (fates_of first.streams) y) (has (ids ds) y) h))
 
   same-fate : (y : Identity) → has (ids ds) y ≡ true → model.is_dropped (fates_of old.streams) y ≡ dropped y
   same-fate y h =
       sym (ap (λ ks. model.is_dropped (fates_of ks) y) by.longer.streams
       ∙ (ap (λ fs. model.is_dropped fs y) (map-append (λ (k : StreamContents). k.stream.demand) old.streams by.longer.added)
-      ∙ fate-known (fates_of old.streams) (fates_of by.longer.added) y (known-demanded y h)))
+      ∙ ap model.is_drop_fate (fate_stays (fates_of old.streams) (fates_of by.longer.added) y (known-demanded y h))))
 
   numbers-more : AreNumbers new.streams feeds
   numbers-more j m h = let q = was.numbers j m h in omega (arith, ap length by.longer.streams, length-append {A = StreamContents})
@@ -388,33 +309,34 @@ module _ (now : ℕ) (ds : List Demand) (d : Demand) (first old new : Piped) (n 
       ∙ (named-front old.streams by.longer.added feeds (numbers-named old.streams feeds was.numbers)
       ∙ (was.named ∙ fed-same (model.is_dropped (fates_of old.streams)) dropped ds same-fate))
 
+  is : identity_of k ≡ d.identity
+  is = some_is _ _ (sym (get_map identity_of new.streams n k at) ∙ by.at)
+
   module _ (apart : IsDistinct identity_eq (stream_identities new.streams)) where
     -- the number is fed already exactly if the identity is demanded already
     same : dropped d.identity ≡ false → has_number n feeds ≡ has (ids ds) d.identity
     same undropped =
-        sym (named-has new.streams (are_apart new.streams apart) feeds (numbers-named new.streams feeds numbers-more) n by.at.held by.at.at)
-        ∙ (ap (has (named_identities new.streams feeds)) (sym by.at.is)
+        sym (named-has new.streams (are_apart new.streams apart) feeds (numbers-named new.streams feeds numbers-more) n k at)
+        ∙ (ap (has (named_identities new.streams feeds)) is
         ∙ (ap (λ xs. has xs d.identity) named-old ∙ fed-has dropped ds d.identity undropped))
 
     more : (c h : Bool) → c ≡ h → named_identities new.streams (cond c feeds (feeds ++ n ∷ [])) ≡ fed ++ cond h [] (d.identity ∷ [])
     more true true q = named-old ∙ sym (append-nil fed)
-    more false false q = named-push new.streams feeds n by.at.held by.at.at ∙ λ i. named-old i ++ sym by.at.is i ∷ []
+    more false false q = named-push new.streams feeds n k at ∙ λ i. named-old i ++ is i ∷ []
     more true false q = absurd (true≢false q)
     more false true q = absurd (true≢false (sym q))
 
-    named : (b : Bool) → drops_at new.streams n ≡ b → named_identities new.streams (fed_once b n feeds) ≡ fed ++ cond (dropped d.identity || has (ids ds) d.identity) [] (d.identity ∷ [])
-    named true t = named-old ∙ (sym (append-nil fed) ∙ ap (λ b. fed ++ cond (b || has (ids ds) d.identity) [] (d.identity ∷ [])) (sym (by.at.drops ∙ t)))
-    named false t =
-        more (has_number n feeds) (has (ids ds) d.identity) (same (by.at.drops ∙ t))
-        ∙ ap (λ b. fed ++ cond (b || has (ids ds) d.identity) [] (d.identity ∷ [])) (sym (by.at.drops ∙ t))
+    named : (b : Bool) → dropped d.identity ≡ b → named_identities new.streams (fed_once b n feeds) ≡ fed ++ cond (dropped d.identity || has (ids ds) d.identity) [] (d.identity ∷ [])
+    named true t = named-old ∙ (sym (append-nil fed) ∙ ap (λ b. fed ++ cond (b || has (ids ds) d.identity) [] (d.identity ∷ [])) (sym t))
+    named false t = more (has_number n feeds) (has (ids ds) d.identity) (same t) ∙ ap (λ b. fed ++ cond (b || has (ids ds) d.identity) [] (d.identity ∷ [])) (sym t)
 
-    pub met-more : (all : List ℕ) → all ≡ fed_once (drops_at new.streams n) n feeds → AreMet now (ds ++ d ∷ []) first new all
+    pub met-more : (all : List ℕ) → all ≡ fed_once (model.is_drop k.stream.demand.aggregation) n feeds → AreMet now (ds ++ d ∷ []) first new all
     met-more all e = subst (AreMet now (ds ++ d ∷ []) first new) (sym e) (record {
       part = by.part ∙ (ap (λ p. machine.part_after_demand now p d) was.part ∙ sym (fold-append (machine.part_after_demand now) (part_of first) ds (d ∷ [])));
       hash_seed = by.hash_seed ∙ was.hash_seed;
-      numbers = numbers-once new.streams (drops_at new.streams n) n feeds (slice_get_within new.streams n by.at.held by.at.at) numbers-more;
-      once = once-more (drops_at new.streams n) n feeds was.once;
-      named = named (drops_at new.streams n) refl ∙ sym (fed-push dropped ds d);
+      numbers = numbers-once new.streams (model.is_drop k.stream.demand.aggregation) n feeds (slice_get_within new.streams n k at) numbers-more;
+      once = once-more (model.is_drop k.stream.demand.aggregation) n feeds was.once;
+      named = named (model.is_drop k.stream.demand.aggregation) (ap dropped (sym is) ∙ fate-at new.streams n k apart at) ∙ sym (fed-push dropped ds d);
     })
 
 -- ======== a build ========

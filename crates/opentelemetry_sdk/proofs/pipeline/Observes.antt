@@ -2,7 +2,9 @@
 use Rattle.std.proofs.Common.{◌≡◌, ℕ, Bool, true, false, List, [], ◌∷◌, map, fold, refl, sym, ◌∙◌, ap, subst, arith}
 use Rattle.std.specs.List.{IsDistinct}
 use Rattle.std.specs.Prelude.{All}
+use Rattle.std.proofs.lemmas.List.{map-id}
 use Rattle.std.proofs.lemmas.List.Elements.{All-tail}
+use Rattle.std.proofs.lemmas.Simd.{map-map}
 use Rattle.otel_stream.specs.declared.observation.Observed.{Observed}
 use Rattle.otel_common.specs.declared.resource.Resource.{Resource}
 use Rattle.otel_common.specs.declared.scopes.InstrumentationScope.{InstrumentationScope}
@@ -20,7 +22,7 @@ use Rattle.otel_model.specs.Streams.{aggregate_of, is_delta, kind_of}
 use Rattle.otel_model.proofs.Follow.{run_append, recorded_append}
 use Rattle.opentelemetry_sdk.specs.pipeline.Collections.{IsCollectedFrom, scopes_shown}
 use Rattle.opentelemetry_sdk.specs.pipeline.Observations.{observed_of, AreTypedFor, observed_in, observed_all}
-use Rattle.opentelemetry_sdk.specs.pipeline.Pipelines.{AreAnswered, FeedsType, IsLawful, Piped, all_without_pending, fates_of, fed_by, all_after_collection, part_by, part_changed_by, part_of}
+use Rattle.opentelemetry_sdk.specs.pipeline.Pipelines.{AreAnswered, FeedsType, IsLawful, Piped, all_without_pending, fates_of, fed_by, all_after_collection, part_by, part_of}
 use Rattle.opentelemetry_sdk.specs.pipeline.Streams.{StreamContents, contents_after_record}
 use Rattle.opentelemetry_sdk.proofs.pipeline.Answered.{answered-same, answers-observed, records}
 use Rattle.opentelemetry_sdk.proofs.pipeline.Collects.{collected-is, part-finished}
@@ -74,48 +76,28 @@ module _ (answers : ReaderAnswers) (feeds : List (List Identity)) where
         exported = (stream_after answers feeds 0 (model.Call.Collect r now os) s).exported;
       }
 
-  streams_after : (r now : ℕ) (os : List model.Observed) (ss : List Stream)
-      → map (stream_after answers feeds 0 (model.Call.Collect r now [])) (map (λ s. fold sent_one s os) ss) ≡ map (stream_after answers feeds 0 (model.Call.Collect r now os)) ss
-  streams_after r now os [] = refl
-  streams_after r now os (s ∷ ss) = λ i. collected_after r now os s i ∷ streams_after r now os ss i
-
   -- the metric of a stream, with its scope
   abbrev scoped_with : ℕ → List model.Observed → Stream → ScopedMetric
   scoped_with now os q = (q.demand.identity.scope, metric answers now q.start q.reported q.demand (points_at answers feeds os q))
 
-  shown_after : (now : ℕ) (os : List model.Observed) (ss : List Stream) → map (scoped_with now []) (map (λ s. fold sent_one s os) ss) ≡ map (scoped_with now os) ss
-  shown_after now os [] = refl
-  shown_after now os (s ∷ ss) = λ i. scoped_with now [] (records_over os s i) ∷ shown_after now os ss i
-
   -- records of all streams, and of each
   records_each : (os : List model.Observed) (fates : List Demand) (ss : List Stream)
       → records_sent os (record { answers = answers; fates = fates; streams = ss; feeds = feeds }) ≡ record { answers = answers; fates = fates; streams = map (λ s. fold sent_one s os) ss; feeds = feeds }
-  records_each [] fates ss = ap (λ (zs : List Stream). record { answers = answers; fates = fates; streams = zs; feeds = feeds }) (none ss)
-    where
-      none : (zs : List Stream) → zs ≡ map (λ s. fold sent_one s []) zs
-      none [] = refl
-      none (z ∷ zs) = ap (λ l. z ∷ l) (none zs)
-  records_each (o ∷ os) fates ss = records_each os fates (map (λ s. sent_one s o) ss) ∙ ap (λ (zs : List Stream). record { answers = answers; fates = fates; streams = zs; feeds = feeds }) (more ss)
-    where
-      more : (zs : List Stream) → map (λ s. fold sent_one s os) (map (λ s. sent_one s o) zs) ≡ map (λ s. fold sent_one s (o ∷ os)) zs
-      more [] = refl
-      more (z ∷ zs) = ap (λ l. fold sent_one z (o ∷ os) ∷ l) (more zs)
+  records_each [] fates ss = ap (λ (zs : List Stream). record { answers = answers; fates = fates; streams = zs; feeds = feeds }) (sym (map-id ss))
+  records_each (o ∷ os) fates ss =
+      records_each os fates (map (λ s. sent_one s o) ss) ∙ ap (λ (zs : List Stream). record { answers = answers; fates = fates; streams = zs; feeds = feeds }) (map-map (λ s. fold sent_one s os) (λ s. sent_one s o) ss)
 
 pub collected-sent : (r now : ℕ) (os : List model.Observed) (p : ReaderPart) → part_after_call 0 (model.Call.Collect r now []) (records_sent os p) ≡ part_after_call 0 (model.Call.Collect r now os) p
 collected-sent r now os p =
     ap (part_after_call 0 (model.Call.Collect r now [])) (records_each p.answers p.feeds os p.fates p.streams)
-    ∙ λ i. record { answers = p.answers; fates = p.fates; streams = streams_after p.answers p.feeds r now os p.streams i; feeds = p.feeds }
+    ∙ λ i. record { answers = p.answers; fates = p.fates; streams = (map-map (stream_after p.answers p.feeds 0 (model.Call.Collect r now [])) (λ s. fold (sent_one p.answers p.feeds) s os) p.streams ∙ λ j. map (λ s. collected_after p.answers p.feeds r now os s j) p.streams) i; feeds = p.feeds }
 
 pub collected-from : (s : Shared) (now : ℕ) (os : List model.Observed) (p : ReaderPart) → collect_from s now [] (records_sent os p) ≡ collect_from s now os p
 collected-from s now os p =
     ap (collect_from s now []) (records_each p.answers p.feeds os p.fates p.streams)
-    ∙ ap (collection s.resource s.meters) (shown_after p.answers p.feeds now os p.streams)
+    ∙ ap (collection s.resource s.meters) (map-map (scoped_with p.answers p.feeds now []) (λ s. fold (sent_one p.answers p.feeds) s os) p.streams ∙ λ i. map (λ s. scoped_with p.answers p.feeds now [] (records_over p.answers p.feeds os s i)) p.streams)
 
 -- ======== the code: observations taken in stream by stream ========
--- one observation is a record
-one-observed : (o : Observed) (p : Piped) → IsLawful p → FeedsType o.instrument (is_signed_value o.value) (part_of p) → part_changed_by (contents_after_record o.value o.attributes) o.instrument p ≡ part_after_call 0 (record_of (observed_of o)) (part_of p)
-one-observed o p lawful typed = taken-sent o.instrument o.value o.attributes p lawful typed
-
 answered-observed : (os : List Observed) (p : Piped) → AreAnswered p.answers p.streams → AreAnswered p.answers (observed_all p.feeds os p.streams)
 answered-observed os p all = answered-same (λ resets d. resets ≡ is_delta p.answers d) (observed_all p.feeds os p.streams) p.streams (answers-observed p.feeds os p.streams) all
 
@@ -132,7 +114,7 @@ observed-sent (o ∷ os) p lawful typed =
     (record { apart = subst (IsDistinct identity_eq) (sym (identities-same next p.streams same)) lawful.apart; numbers = numbers-kept p.streams next p.feeds (length-seen (λ (k : StreamContents). k.stream.demand) p.streams next (sym same)) lawful.numbers; once = lawful.once })
     (subst (λ (fs : List (List Identity)). All (λ (q : Observed). (x : Identity) → is_fed fs q.instrument x ≡ true → x.signed ≡ is_signed_value q.value) os) (sym (feeds-same next p.streams same p.feeds))
     (All-tail (λ (q : Observed). FeedsType q.instrument (is_signed_value q.value) (part_of p)) o os typed))
-    ∙ ap (records_sent (map observed_of os)) (one-observed o p lawful (typed 0 o (omega arith)))
+    ∙ ap (records_sent (map observed_of os)) (taken-sent o.instrument o.value o.attributes p lawful (typed 0 o (omega arith)))
 
 -- a collection that took observations in has the scopes that are shown
 pub observed-is : (resource : Resource) (meters : List InstrumentationScope) (now : ℕ) (os : List Observed) (p : Piped) (c : ResourceMetrics)

@@ -40,8 +40,7 @@ named-same a b e [] = refl
 named-same a b e (n ∷ ns) = λ i. (identity_at-demands a n ∙ (ap (λ ds. one_named (slice_get ds n)) e ∙ sym (identity_at-demands b n))) i ++ named-same a b e ns i
 
 pub feeds-same : (a b : List StreamContents) → fates_of a ≡ fates_of b → (feeds : List (List ℕ)) → map (named_identities a) feeds ≡ map (named_identities b) feeds
-feeds-same a b e [] = refl
-feeds-same a b e (ns ∷ feeds) = λ i. named-same a b e ns i ∷ feeds-same a b e feeds i
+feeds-same a b e feeds = λ i. map (λ ns. named-same a b e ns i) feeds
 
 -- ======== what stays true ========
 -- numbers of as many streams

@@ -1,17 +1,23 @@
 -- Metrics that are put down at the places of their meters.
-use Rattle.std.proofs.Common.{◌≡◌, ℕ, zero, suc, ◌+◌, ◌<◌, ◌≤◌, Bool, true, false, cond, ◌&&◌, List, [], ◌∷◌, ◌++◌, map, filter, length, get_or, set, drop, replicate, Option, Some, None, option_map, refl, sym, ◌∙◌, ap, subst, arith, append_assoc, add-one, true≢false}
-use Rattle.std.specs.List.{IsDistinct, AllByRecursion, position, slice_get}
+use Rattle.std.proofs.Common.{◌≡◌, ℕ, zero, suc, ◌+◌, ◌<◌, ◌≤◌, Bool, true, false, cond, ◌&&◌, List, [], ◌∷◌, ◌++◌, map, filter, length, get_or, set, drop, replicate, Option, Some, None, refl, sym, ◌∙◌, ap, subst, arith, append_assoc, add-one}
+use Rattle.std.specs.List.{IsDistinct, AllByRecursion, list_any, position, slice_get}
+use Rattle.std.specs.Prelude.{IfSome}
+use Rattle.std.proofs.lemmas.Bool.{or_parts}
 use Rattle.std.proofs.lemmas.List.{append-nil, drop_all, length-map, length-replicate, nil_from_length}
-use Rattle.std.proofs.lemmas.List.Elements.{filter-append}
+use Rattle.std.proofs.lemmas.List.Elements.{All-from_recursion, filter-append}
+use Rattle.std.proofs.lemmas.List.Folds.{list_any_none}
 use Rattle.otel_common.specs.Scopes.{scope_eq, scope_eq-Decides}
 use Rattle.otel_common.specs.declared.scopes.InstrumentationScope.{InstrumentationScope}
 use Rattle.otel_data.specs.declared.collections.Metric.{Metric}
 use Rattle.otel_data.specs.declared.collections.ScopeMetrics.{ScopeMetrics}
 use Rattle.otel_model.specs.Collections.{ScopedMetric, in_scope, has_points, has_metrics}
+use Rattle.otel_model.proofs.Amounts.{each_at}
+use Rattle.otel_model.proofs.Single.{some_is}
 use Rattle.opentelemetry_sdk.specs.pipeline.Collections.{scoped_metric, all_scoped, if_shown, append_each, shown_one, shown_in, scope_shown, scopes_shown}
 use Rattle.opentelemetry_sdk.specs.pipeline.Pipelines.{is_streamed}
 use Rattle.opentelemetry_sdk.specs.pipeline.Streams.{StreamContents, shown_metric, if_points}
-use Rattle.opentelemetry_sdk.proofs.pipeline.Builds.{position-cons}
+use Rattle.opentelemetry_sdk.proofs.pipeline.Builds.{position-at}
+use Rattle.opentelemetry_sdk.proofs.pipeline.Identities.{scope-flip}
 
 -- ======== one stream less is left ========
 shown_first : (a b : Bool) (m : ScopedMetric) (xs : List ScopedMetric) (p : ScopedMetric → Bool) → p m ≡ b → map (λ (m : ScopedMetric). m.1) (filter p (cond a (m ∷ xs) xs)) ≡ if_shown (a && b) m.1 ++ map (λ (m : ScopedMetric). m.1) (filter p xs)
@@ -55,21 +61,9 @@ joined-twice f g h (x ∷ xs) (b ∷ bs) e = λ i. (append_assoc x (f b) (g b) �
 joined-twice f g h xs bs e = refl
 
 -- ======== a meter that was found ========
-each_at : (P : InstrumentationScope → Type 0) (ms : List InstrumentationScope) (n : ℕ) (s : InstrumentationScope) → AllByRecursion P ms → slice_get ms n ≡ Some s → P s
-each_at P [] n s all at = absurd (cc)
-each_at P (m ∷ ms) zero s all at = subst P (cc) all.0
-each_at P (m ∷ ms) (suc n) s all at = each_at P ms n s all.1 at
-
--- where a scope stands, since no other meter has it
-pub position-at : (s : InstrumentationScope) (ms : List InstrumentationScope) (n : ℕ) → IsDistinct scope_eq ms → slice_get ms n ≡ Some s → position (scope_eq s) ms ≡ Some n
-unfolding IsDistinct
-position-at s [] n apart at = absurd (cc)
-position-at s (m ∷ ms) zero apart at = position-cons (scope_eq s) m ms ∙ ap (λ b. cond b (Some 0) (option_map suc (position (scope_eq s) ms))) ((scope_eq-Decides s m).1 (cc))
-position-at s (m ∷ ms) (suc n) apart at = by (scope_eq s m) refl (position-at s ms n apart.1 at)
-  where
-    by : (b : Bool) → scope_eq s m ≡ b → position (scope_eq s) ms ≡ Some n → position (scope_eq s) (m ∷ ms) ≡ Some (suc n)
-    by true p rest = absurd (true≢false (sym ((scope_eq-Decides m s).1 (sym ((scope_eq-Decides s m).0 p))) ∙ each_at (λ y. scope_eq m y ≡ false) ms n s apart.0 at))
-    by false p rest = position-cons (scope_eq s) m ms ∙ (ap (λ b. cond b (Some 0) (option_map suc (position (scope_eq s) ms))) p ∙ ap (option_map suc) rest)
+pub scope-found : (s : InstrumentationScope) (ms : List InstrumentationScope) (o : Option ℕ) → o ≡ position (scope_eq s) ms → IfSome o (λ n. slice_get ms n ≡ Some s)
+scope-found s ms None e = tt
+scope-found s ms (Some n) e = let at = position-at (scope_eq s) ms n s (sym e) in at.1 ∙ ap (λ m. Some m) (sym ((scope_eq-Decides s (get_or ms n s)).0 at.2))
 
 -- ======== one metric more ========
 module _ (s : InstrumentationScope) (c : Bool) (x : Metric) where
@@ -81,37 +75,25 @@ module _ (s : InstrumentationScope) (c : Bool) (x : Metric) where
   gets_none m e = ap (λ b. if_shown (b && c) x) e
 
   -- no meter is of the scope
-  absent : (xs : List (List Metric)) (ms : List InstrumentationScope) → AllByRecursion (λ m. scope_eq s m ≡ false) ms → append_each xs (map gets ms) ≡ xs
-  absent (y ∷ xs) (m ∷ ms) all = λ i. (ap (λ z. y ++ z) (gets_none m all.0) ∙ append-nil y) i ∷ absent xs ms all.1 i
-  absent xs ms all = refl
-
-  all_other : (ms : List InstrumentationScope) → position (scope_eq s) ms ≡ None → AllByRecursion (λ m. scope_eq s m ≡ false) ms
-  all_other [] e = tt
-  all_other (m ∷ ms) e = by (scope_eq s m) (position (scope_eq s) ms) refl (λ q. all_other ms q) (sym (position-cons (scope_eq s) m ms) ∙ e)
-    where
-      by : (b : Bool) (o : Option ℕ) → scope_eq s m ≡ b → (o ≡ None → AllByRecursion (λ m. scope_eq s m ≡ false) ms) → cond b (Some 0) (option_map suc o) ≡ None → AllByRecursion (λ m. scope_eq s m ≡ false) (m ∷ ms)
-      by false None p rest r = (p, rest refl)
-      by b o p rest r = absurd (cc)
-
-  pub placed-none : (xs : List (List Metric)) (ms : List InstrumentationScope) → position (scope_eq s) ms ≡ None → append_each xs (map gets ms) ≡ xs
-  placed-none xs ms e = absent xs ms (all_other ms e)
+  pub absent : (xs : List (List Metric)) (ms : List InstrumentationScope) → list_any (scope_eq s) ms ≡ false → append_each xs (map gets ms) ≡ xs
+  absent (y ∷ xs) (m ∷ ms) none =
+      let other = or_parts (scope_eq s m) (list_any (scope_eq s) ms) none in
+      λ i. (ap (λ z. y ++ z) (gets_none m other.0) ∙ append-nil y) i ∷ absent xs ms other.1 i
+  absent xs ms none = refl
 
   -- the meter of a place is of the scope, and no other is
-  pub placed-at : {V : Type 0} (view : V → List Metric) (vs : List V) (ms : List InstrumentationScope) (n : ℕ) (old new : V) → length vs ≡ length ms → IsDistinct scope_eq ms → position (scope_eq s) ms ≡ Some n
+  pub placed-at : {V : Type 0} (view : V → List Metric) (vs : List V) (ms : List InstrumentationScope) (n : ℕ) (old new : V) → length vs ≡ length ms → IsDistinct scope_eq ms → slice_get ms n ≡ Some s
       → old ≡ get_or vs n old → view new ≡ view old ++ if_shown c x → map view (set vs n new) ≡ append_each (map view vs) (map gets ms)
   unfolding IsDistinct
   placed-at view [] [] n old new long apart at is e = absurd (cc)
-  placed-at view [] (m ∷ ms) n old new long apart at is e = absurd (omega arith)
-  placed-at view (v ∷ vs) [] n old new long apart at is e = absurd (omega arith)
-  placed-at view (v ∷ vs) (m ∷ ms) n old new long apart at is e =
-      by (scope_eq s m) (position (scope_eq s) ms) n refl (λ k q is. placed-at view vs ms k old new (omega arith) apart.1 q is e) (sym (position-cons (scope_eq s) m ms) ∙ at) is
-    where
-      by : (b : Bool) (o : Option ℕ) (n : ℕ) → scope_eq s m ≡ b → ((k : ℕ) → o ≡ Some k → old ≡ get_or vs k old → map view (set vs k new) ≡ append_each (map view vs) (map gets ms)) → cond b (Some 0) (option_map suc o) ≡ Some n
-          → old ≡ get_or (v ∷ vs) n old → map view (set (v ∷ vs) n new) ≡ append_each (map view (v ∷ vs)) (map gets (m ∷ ms))
-      by true o zero p rest r is = λ i. (e ∙ ap (λ z. view z ++ if_shown c x) is ∙ ap (λ b. view v ++ if_shown (b && c) x) (sym p)) i
-          ∷ sym (absent (map view vs) ms (subst (λ (t : InstrumentationScope). AllByRecursion (λ y. scope_eq t y ≡ false) ms) (sym ((scope_eq-Decides s m).0 p)) apart.0)) i
-      by false (Some k) (suc n) p rest r is = λ i. sym (ap (λ z. view v ++ z) (gets_none m p) ∙ append-nil (view v)) i ∷ rest n (cc) is i
-      by b o n p rest r is = absurd (cc)
+  placed-at view (v ∷ vs) (m ∷ ms) zero old new long apart at is e =
+      let same : m ≡ s = some_is m s at in
+      let none : list_any (scope_eq s) ms ≡ false = list_any_none (scope_eq s) ms (All-from_recursion _ ms (subst (λ (t : InstrumentationScope). AllByRecursion (λ y. scope_eq t y ≡ false) ms) same apart.0)) in
+      λ i. (e ∙ ap (λ z. view z ++ if_shown c x) is ∙ ap (λ b. view v ++ if_shown (b && c) x) (sym ((scope_eq-Decides s m).1 (sym same)))) i ∷ sym (absent (map view vs) ms none) i
+  placed-at view (v ∷ vs) (m ∷ ms) (suc n) old new long apart at is e =
+      let other : scope_eq s m ≡ false = scope-flip s m ∙ each_at (λ y. scope_eq m y ≡ false) ms n s apart.0 at in
+      λ i. sym (ap (λ z. view v ++ z) (gets_none m other) ∙ append-nil (view v)) i ∷ placed-at view vs ms n old new (omega arith) apart.1 at is e i
+  placed-at view vs ms n old new long apart at is e = absurd (omega arith)
 
 -- ======== one stream more ========
 -- a stream that drops gives nothing
@@ -147,13 +129,13 @@ streamed_gets : (now : ℕ) (k : StreamContents) → is_streamed k ≡ true → 
 streamed_gets now k e = λ i m. if_shown (e i && (scope_eq k.stream.demand.identity.scope m && has_points (shown_metric now k))) (shown_metric now k)
 
 -- nor does one whose scope has no meter
-pub pushed-nowhere : (now : ℕ) (k : StreamContents) (xs : List (List Metric)) (ms : List InstrumentationScope) → is_streamed k ≡ true → position (scope_eq k.stream.demand.identity.scope) ms ≡ None
+pub pushed-nowhere : (now : ℕ) (k : StreamContents) (xs : List (List Metric)) (ms : List InstrumentationScope) → is_streamed k ≡ true → list_any (scope_eq k.stream.demand.identity.scope) ms ≡ false
     → append_each xs (map (λ m. shown_one m now k) ms) ≡ xs
-pushed-nowhere now k xs ms e at = ap (λ (f : InstrumentationScope → List Metric). append_each xs (map f ms)) (streamed_gets now k e) ∙ placed-none k.stream.demand.identity.scope _ _ xs ms at
+pushed-nowhere now k xs ms e at = ap (λ (f : InstrumentationScope → List Metric). append_each xs (map f ms)) (streamed_gets now k e) ∙ absent k.stream.demand.identity.scope _ _ xs ms at
 
 -- the others give their metric to the meter of their scope
 pub pushed-at : {V : Type 0} (view : V → List Metric) (now : ℕ) (k : StreamContents) (vs : List V) (ms : List InstrumentationScope) (n : ℕ) (old new : V) → is_streamed k ≡ true → has_points (shown_metric now k) ≡ true
-    → length vs ≡ length ms → IsDistinct scope_eq ms → position (scope_eq k.stream.demand.identity.scope) ms ≡ Some n → old ≡ get_or vs n old → view new ≡ view old ++ shown_metric now k ∷ []
+    → length vs ≡ length ms → IsDistinct scope_eq ms → slice_get ms n ≡ Some k.stream.demand.identity.scope → old ≡ get_or vs n old → view new ≡ view old ++ shown_metric now k ∷ []
     → map view (set vs n new) ≡ append_each (map view vs) (map (λ m. shown_one m now k) ms)
 pushed-at view now k vs ms n old new e points long apart at is more =
     placed-at k.stream.demand.identity.scope _ _ view vs ms n old new long apart at is (more ∙ ap (λ b. view old ++ if_shown b (shown_metric now k)) (sym points))

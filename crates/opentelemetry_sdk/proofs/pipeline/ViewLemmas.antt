@@ -16,12 +16,12 @@ use Rattle.otel_model.specs.Machine.{build_demands}
 use Rattle.otel_model.specs.State.{ReaderPart}
 use Rattle.otel_model.specs.Checks.{is_good_name, optional_unit_fault}
 use Rattle.opentelemetry_sdk.specs.States.{IsGoodIn}
-use Rattle.opentelemetry_sdk.specs.pipeline.Pipelines.{AreMet, Piped, part_of, named_identities, fates_of}
-use Rattle.opentelemetry_sdk.specs.pipeline.Streams.{StreamContents}
+use Rattle.opentelemetry_sdk.specs.pipeline.Pipelines.{AreMet, Piped, part_of, fates_of, some_stream}
 use Rattle.opentelemetry_sdk.specs.pipeline.Views.{views_answering, usable_answer, usable_demands, can_keep, is_unfit, has_none, demands_own}
 use Rattle.opentelemetry_sdk.proofs.pipeline.DemandLemmas.{default_from-parts}
-use Rattle.opentelemetry_sdk.proofs.pipeline.Meets.{demanded-fates, no_identity, fed-empty}
-use Rattle.opentelemetry_sdk.proofs.pipeline.Records.{HaveStreams, identity_at-is, numbers-named}
+use Rattle.opentelemetry_sdk.proofs.pipeline.Feeds.{some-named}
+use Rattle.opentelemetry_sdk.proofs.pipeline.Meets.{demanded-fates, fed-some}
+use Rattle.opentelemetry_sdk.proofs.pipeline.Records.{numbers-named}
 
 -- ======== which aggregations can be used ========
 with_own-fits : (kind : InstrumentKind) (own : Option (List ℤ)) (a : Aggregation) → fits kind a ≡ true → fits kind (with_own kind own a) ≡ true
@@ -79,14 +79,15 @@ module _ (answers : ReaderAnswers) (scope : InstrumentationScope) (about : About
   -- nothing is fed exactly if all that is demanded drops
   fed-none : (now : ℕ) (ds : List Demand) (old new : Piped) (ns : List ℕ) → AreMet now ds old new ns → has_none ns ≡ not (list_any (λ (d : Demand). not (model.is_dropped (fold machine.enter (fates_of old.streams) ds) d.identity)) ds)
   fed-none now ds old new ns met =
-      none-named new.streams ns (numbers-named new.streams ns met.numbers)
-      ∙ (ap no_identity met.named
-      ∙ (fed-empty (model.is_dropped (fates_of new.streams)) ds
-      ∙ ap (λ fs. not (list_any (λ (d : Demand). not (model.is_dropped fs d.identity)) ds)) (ap (λ (p : ReaderPart). p.fates) met.part ∙ demanded-fates now (part_of old) ds)))
+      none-some ns
+      ∙ ap not (sym (some-named new.streams ns (numbers-named new.streams ns met.numbers))
+      ∙ (ap some_stream met.named
+      ∙ (fed-some (model.is_dropped (fates_of new.streams)) ds
+      ∙ ap (λ fs. list_any (λ (d : Demand). not (model.is_dropped fs d.identity)) ds) (ap (λ (p : ReaderPart). p.fates) met.part ∙ demanded-fates now (part_of old) ds))))
     where
-      none-named : (ks : List StreamContents) (ns : List ℕ) → HaveStreams ns ks → has_none ns ≡ no_identity (named_identities ks ns)
-      none-named ks [] all = refl
-      none-named ks (n ∷ ns) all = sym (ap (λ xs. no_identity (xs ++ named_identities ks ns)) (identity_at-is ks n (all.0.0) all.0.1))
+      none-some : (ns : List ℕ) → has_none ns ≡ not (some_stream ns)
+      none-some [] = refl
+      none-some (n ∷ ns) = refl
 
   -- so the streams that what can be used feeds tell whether the own one is demanded, and so all that is
   pub demands-with : (now : ℕ) (old new : Piped) (o : Option InstrumentationScope) (l : List (Option StreamSpec)) (ns : List ℕ) (b : Bool) → old.answers ≡ answers → o ≡ Some scope → IsGoodIn o about → AreMet now (usable l) old new ns → demands_own about.kind l ns ≡ b

@@ -99,21 +99,6 @@ pub record IsLawful (p : Piped) : Type 0 where
 abbrev pub stream_number : Identity → List Identity → Option ℕ
 stream_number x keys = position (identity_eq x) keys
 
--- whether the stream with this number, if there is one, drops
-abbrev pub drops_at : List StreamContents → ℕ → Bool
-drops_at streams n = by (slice_get streams n)
-  where
-    by : Option StreamContents → Bool
-    by None = false
-    by (Some h) = is_drop h.stream.demand.aggregation
-
--- the stream of this number has the identity, and its demand decides whether that drops
-pub record IsStreamOf (x : Identity) (streams : List StreamContents) (n : ℕ) : Type 0 where
-  pub held : StreamContents
-  pub at : slice_get streams n ≡ Some held
-  pub is : x ≡ identity_of held
-  pub drops : is_dropped (fates_of streams) x ≡ drops_at streams n
-
 -- these numbers and n, unless it is there already or its stream drops: nothing feeds a stream that drops
 abbrev pub fed_once : Bool → ℕ → List ℕ → List ℕ
 fed_once drops n ns = cond (drops || has_number n ns) ns (ns ++ n ∷ [])
@@ -135,7 +120,7 @@ pub record IsMetBy (now : ℕ) (d : Demand) (old new : Piped) (n : ℕ) : Type 0
   pub longer : IsLonger old new
   pub part : part_of new ≡ part_after_demand now (part_of old) d
   pub hash_seed : new.hash_seed ≡ old.hash_seed
-  pub at : IsStreamOf d.identity new.streams n
+  pub at : slice_get (stream_identities new.streams) n ≡ Some d.identity
 
 -- the old reader has met these demands of an instrument, which is to feed the streams of these numbers, each once
 pub record AreMet (now : ℕ) (demands : List Demand) (old new : Piped) (feeds : List ℕ) : Type 0 where

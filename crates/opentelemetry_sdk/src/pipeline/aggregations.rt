@@ -5,7 +5,7 @@ ghost use Rattle.otel_aggregate.specs.Any as any;
 ghost use Rattle.otel_model.specs.Calls.{is_observable};
 ghost use Rattle.otel_model.specs.Demands as demands;
 ghost use Rattle.otel_model.specs.Demands.{resets};
-ghost use Rattle.otel_model.specs.Streams.{aggregate_of, has_sum, is_delta, is_drained, is_monotonic_kind, observes_sums};
+ghost use Rattle.otel_model.specs.Streams.{aggregate_of, is_delta, is_drained, is_monotonic_kind, observes_sums};
 ghost use Rattle.opentelemetry_sdk.specs.pipeline.Streams.{IsMakeable, asks_monotonic};
 
 use otel_aggregate::aggregators::bounds::Bounds;
@@ -44,14 +44,6 @@ fn is_monotonic(kind: InstrumentKind) -> bool
         kind,
         InstrumentKind::Counter | InstrumentKind::Histogram | InstrumentKind::ObservableCounter
     )
-}
-
-/// Whether a histogram of a kind's values has a sum. It has none for up-down counters, synchronous or not, and for
-/// asynchronous gauges.
-fn has_sum(kind: InstrumentKind) -> bool
-    ensures { result ≡ has_sum kind }
-{
-    is_monotonic(kind) || matches!(kind, InstrumentKind::Gauge)
 }
 
 /// Whether a kind observes values that are already summed.
@@ -95,7 +87,7 @@ pub(crate) fn settings_of(demand: &Demand) -> Result<AnySettings, Fault>
             Ok(AnySettings::Histogram(HistogramSettings {
                 bounds,
                 has_min_max: *record_min_max,
-                has_sum: has_sum(kind),
+                has_sum: is_monotonic(kind) || matches!(kind, InstrumentKind::Gauge),
             }))
         }
         Aggregation::Sum if observes_sums(kind) => Ok(AnySettings::PrecomputedSum {

@@ -15,7 +15,7 @@ ghost use Rattle.opentelemetry_sdk.specs.pipeline.Views.{views_answering, usable
 use crate::pipeline::Pipeline;
 use crate::pipeline::about::About;
 use crate::pipeline::aggregations::{is_drop, temporality_of};
-use crate::pipeline::demands::{demand_of, own_demand};
+use crate::pipeline::demands::demand_of;
 use crate::pipeline::metric_stream::MetricStream;
 use crate::pipeline::vectors::reserve_one;
 use otel_aggregate::value_map::hashing::SetHashBuilder;
@@ -107,9 +107,7 @@ impl Pipeline {
         ensures only_memory { IsOkUnless result Fault.OutOfMemory }
     {
         let number = self.stream_for(demand, now)?;
-        // These two tell the prover that no identity occurs twice.
-        kind_laws();
-        let _ = self.identities.len();
+        self.law_of_identities();
         let drops = is_drop(&self.streams[number].demand().aggregation);
         feed(feeds, number, drops)
     }
@@ -163,7 +161,7 @@ impl Pipeline {
         if !demands_own(about.kind, answered, &feeds) {
             return Ok(feeds);
         }
-        let demand = own_demand(self.alloc, &self.answers, scope, about)?;
+        let demand = demand_of(self.alloc, &self.answers, scope, about, &Stream::default())?;
         self.meet(&mut feeds, demand, now)?;
         Ok(feeds)
     }

@@ -1,7 +1,7 @@
 //! What a collection gives for one reader's streams.
 
-ghost use Rattle.std.specs.Prelude.{◌≡◌, ◌++◌, [], ◌∷◌, true, Some, map, filter, length, replicate, slice_get, OnOk, IfOk, IsOkUnless};
-ghost use Rattle.std.specs.List.{IsDistinct, position};
+ghost use Rattle.std.specs.Prelude.{◌≡◌, ◌++◌, [], ◌∷◌, true, false, None, Some, map, filter, length, replicate, slice_get, OnOk, IfOk, IfSome, IsOkUnless};
+ghost use Rattle.std.specs.List.{IsDistinct, list_any};
 ghost use Rattle.otel_common.specs.Scopes.{scope_eq};
 ghost use Rattle.otel_model.specs.Collections.{has_metrics};
 ghost use Rattle.opentelemetry_sdk.specs.pipeline.Collections.{append_each, shown_one, shown_in, scopes_shown};
@@ -16,18 +16,6 @@ use otel_common::lists::Items;
 use otel_common::scopes::InstrumentationScope;
 use otel_data::collections::{Metric, ScopeMetrics};
 use std::alloc::Global;
-
-/// Makes this many lists of metrics, all empty.
-fn empty_lists(alloc: Global, many: usize) -> Result<Vec<Vec<Metric>>, Fault>
-    ensures lists { IfOk result (λ lists. map (λ v. v.items) lists.items ≡ replicate many []) }
-    ensures only_memory { IsOkUnless result Fault.OutOfMemory }
-{
-    let mut lists = Vec::with_capacity(alloc, many)?;
-    for _ in 0..many {
-        lists.push(Vec::new(alloc))?;
-    }
-    Ok(lists)
-}
 
 /// Whether the meter at this place has this scope.
 fn is_at(
@@ -50,8 +38,8 @@ fn place_near(
     place: usize,
     scope: &InstrumentationScope,
 ) -> Option<usize>
-    requires apart { IsDistinct scope_eq meters.now.keys }
-    ensures { result ≡ position (scope_eq scope.now) meters.now.keys }
+    ensures there { IfSome result (λ n. slice_get meters.now.keys n ≡ Some scope.now) }
+    ensures nowhere { result ≡ None → list_any (scope_eq scope.now) meters.now.keys ≡ false }
 {
     if is_at(meters, place, scope) {
         return Some(place);
@@ -109,7 +97,10 @@ fn metrics_by_meter(
     ensures metrics { IfOk result (λ lists. map (λ v. v.items) lists.items ≡ map (λ m. shown_in m now streams.now) meters.now.keys) }
     ensures only_memory { IsOkUnless result Fault.OutOfMemory }
 {
-    let mut lists = empty_lists(alloc, meters.len())?;
+    let mut lists = Vec::with_capacity(alloc, meters.len())?;
+    for _ in 0..meters.len() {
+        lists.push(Vec::new(alloc))?;
+    }
     let mut place = 0;
     for stream in streams {
         place = push_metric(alloc, &mut lists, meters, place, stream, now)?;

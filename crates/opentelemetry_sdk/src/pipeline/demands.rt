@@ -3,7 +3,7 @@
 
 ghost use Rattle.std.specs.Prelude.{◌≡◌, [], IfOk, IsOkUnless, true};
 ghost use Rattle.otel_model.specs.Calls.{ascii_lowercase, or_else};
-ghost use Rattle.otel_model.specs.Demands.{answer_for, demand_of, own_demand, are_good_bounds, is_valid, default_limit, resolved_aggregation};
+ghost use Rattle.otel_model.specs.Demands.{demand_of, are_good_bounds, is_valid, resolved_aggregation};
 
 use crate::pipeline::about::About;
 use crate::pipeline::defaults::{reader_default, resolved_own};
@@ -14,9 +14,7 @@ use otel_common::scopes::InstrumentationScope;
 use otel_common::strings::StringValue;
 use otel_stream::answers::Answers;
 use otel_stream::demand::{Demand, Identity};
-use otel_stream::instrument::InstrumentKind;
 use otel_stream::stream::Stream;
-use otel_stream::stream_spec::StreamSpec;
 use std::alloc::Global;
 
 /// The cardinality limit if neither a view nor the reader gives one.
@@ -44,28 +42,6 @@ pub(crate) fn text_or(
     match (first, second) {
         (Some(text), _) | (None, Some(text)) => Ok(text.clone()?),
         (None, None) => Ok(String::new(alloc).into()),
-    }
-}
-
-/// The name of a stream: the one that is set, or else the instrument's.
-fn spelling_of<'a>(set: &'a Option<StringValue>, own: &'a StringValue) -> &'a StringValue
-    ensures { result.now ≡ or_else set.entry.now own.entry.now }
-{
-    match set {
-        Some(name) => name,
-        None => own,
-    }
-}
-
-/// The cardinality limit, which is how many sets of attributes may have points of their own: the one that is set, or
-/// else the one that the reader wants for the kind, or else the default.
-fn limit_of(answers: &Answers, kind: InstrumentKind, settings: &StreamSpec) -> usize
-    ensures { result ≡ or_else settings.now.limit (or_else (answer_for answers.now kind).limit default_limit) }
-{
-    match (settings.limit, answers.limit(kind)) {
-        (Some(set), _) => set,
-        (None, Some(wanted)) => wanted,
-        (None, None) => DEFAULT_LIMIT,
     }
 }
 
@@ -108,7 +84,8 @@ pub fn demand_of(
     copied_scope();
     stream.lawful();
     let settings = stream.spec();
-    let spelling = spelling_of(&settings.name, about.name);
+    let spelling = settings.name.as_ref().unwrap_or(about.name);
+    let limit = settings.limit.or(answers.limit(about.kind));
     Ok(Demand {
         identity: Identity {
             scope: scope.clone()?,
@@ -121,23 +98,6 @@ pub fn demand_of(
         spelling: spelling.clone()?,
         aggregation: aggregation_of(alloc, answers, about, &settings.aggregation)?,
         allow: settings.allow.clone()?,
-        limit: limit_of(answers, about.kind, settings),
+        limit: limit.unwrap_or(DEFAULT_LIMIT),
     })
-}
-
-/// What an instrument demands of a reader by itself: a stream with its name, description and unit, all attributes, and
-/// the aggregation and limit that the reader wants for its kind.
-///
-/// Copies texts and bounds.
-pub fn own_demand(
-    alloc: Global,
-    answers: &Answers,
-    scope: &InstrumentationScope,
-    about: &About<'_>,
-) -> Result<Demand, Fault>
-    ensures demand { IfOk result (λ d. d ≡ own_demand answers.now scope.now about.now) }
-    ensures valid { are_good_bounds about.now.kind about.now.bounds ≡ true → IfOk result (λ d. is_valid d.aggregation ≡ true) }
-    ensures only_memory { IsOkUnless result Fault.OutOfMemory }
-{
-    demand_of(alloc, answers, scope, about, &Stream::default())
 }

@@ -19,18 +19,6 @@ use otel_data::collections::ResourceMetrics;
 use otel_stream::observation::Observed;
 use std::alloc::Global;
 
-/// Makes room for drafts of this many streams, of which none is made yet.
-fn no_drafts(alloc: Global, many: usize) -> Result<Vec<Option<StreamDraft>>, Fault>
-    ensures drafts { IfOk result (λ drafts. drafts.items ≡ replicate many None) }
-    ensures only_memory { IsOkUnless result Fault.OutOfMemory }
-{
-    let mut drafts = Vec::with_capacity(alloc, many)?;
-    for _ in 0..many {
-        drafts.push(None)?;
-    }
-    Ok(drafts)
-}
-
 /// Takes observations into drafts of the streams that their instruments feed, one after another, and returns the drafts.
 fn observe_each(
     alloc: Global,
@@ -48,7 +36,10 @@ fn observe_each(
     if observations.is_empty() {
         return Ok(Vec::new(alloc));
     }
-    let mut drafts = no_drafts(alloc, streams.len())?;
+    let mut drafts = Vec::with_capacity(alloc, streams.len())?;
+    for _ in 0..streams.len() {
+        drafts.push(None)?;
+    }
     for observation in observations {
         let numbers = streams_fed(feeds, observation.instrument);
         for k in numbers {

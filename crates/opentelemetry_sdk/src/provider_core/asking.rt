@@ -14,23 +14,6 @@ use otel_stream::stream::Stream;
 use otel_stream::view::View;
 use std::alloc::Global;
 
-/// Asks each view about an instrument, in order.
-fn ask_each<V: View>(
-    alloc: Global,
-    views: &[V],
-    instrument: &Instrument,
-) -> Result<Vec<Option<Stream>>, Fault>
-    ensures answers { IfOk result (λ answers. answers.items ≡ map (λ v. V.answer v instrument.now) views.now) }
-    ensures only_memory { IsOkUnless result Fault.OutOfMemory }
-{
-    let mut answers = Vec::with_capacity(alloc, views.len())?;
-    for view in views {
-        let answer = view.match_inst(instrument)?;
-        answers.push_reserved(answer);
-    }
-    Ok(answers)
-}
-
 /// Asks each view once about the instrument of a build; without a scope, asks none. Takes no memory if there are no
 /// views.
 pub(crate) fn ask_in<V: View>(
@@ -42,21 +25,24 @@ pub(crate) fn ask_in<V: View>(
     ensures asked { IfOk result (λ answers. AreAsked (map V.answer views.now) (option_map (λ s. s.now) scope.entry) about.now answers.items) }
     ensures only_memory { IsOkUnless result Fault.OutOfMemory }
 {
-    match scope {
-        Some(scope) => {
-            if views.is_empty() {
-                return Ok(Vec::new(alloc));
-            }
-            copied_scope();
-            let instrument = Instrument {
-                name: about.name.clone()?,
-                description: text_or(alloc, about.description, &None)?,
-                kind: about.kind,
-                unit: text_or(alloc, about.unit, &None)?,
-                scope: scope.clone()?,
-            };
-            ask_each(alloc, views, &instrument)
-        }
-        None => Ok(Vec::new(alloc)),
+    let Some(scope) = scope else {
+        return Ok(Vec::new(alloc));
+    };
+    if views.is_empty() {
+        return Ok(Vec::new(alloc));
     }
+    copied_scope();
+    let instrument = Instrument {
+        name: about.name.clone()?,
+        description: text_or(alloc, about.description, &None)?,
+        kind: about.kind,
+        unit: text_or(alloc, about.unit, &None)?,
+        scope: scope.clone()?,
+    };
+    let mut answers = Vec::with_capacity(alloc, views.len())?;
+    for view in views {
+        let answer = view.match_inst(&instrument)?;
+        answers.push_reserved(answer);
+    }
+    Ok(answers)
 }

@@ -3,7 +3,7 @@
 ghost use Rattle.std.specs.Prelude.{◌≡◌, ◌<◌, ◌-◌, ◌^◌, All, cond, map, slice_get, None, OnOk, IfErr, MatchResult};
 ghost use Rattle.std.specs.Option.{option_map};
 ghost use Rattle.otel_aggregate.specs.Any.{is_signed_value};
-ghost use Rattle.otel_model.specs.Demands.{is_good, are_good_bounds};
+ghost use Rattle.otel_model.specs.Demands.{is_good};
 ghost use Rattle.otel_model.specs.Refusals.{record_refusal, bind_refusal, held_refusal, observation_refusal, observations_refusal};
 ghost use Rattle.opentelemetry_sdk.specs.Correspondence.{number_of, observed_of};
 ghost use Rattle.opentelemetry_sdk.specs.States.{IsFault, IsNamed, IsScopeOf, IsNoMeter, IsTakenBy, IsTaken, IsBindable};
@@ -28,19 +28,7 @@ fn is_signed(value: NumberValue) -> bool
     matches!(value, NumberValue::I64(_))
 }
 
-/// Whether the bounds of an instrument are good. Only those of a histogram are checked.
-fn has_good_bounds(about: &About<'_>) -> bool
-    ensures { result ≡ are_good_bounds about.now.kind about.now.bounds }
-{
-    match (about.kind, about.bounds) {
-        (InstrumentKind::Histogram, Some(bounds)) => {
-            validate_bucket_boundaries(bounds.as_slice()).is_ok()
-        }
-        _ => true,
-    }
-}
-
-/// Whether the name, the unit and the bounds of an instrument are good.
+/// Whether the name, the unit and the bounds of an instrument are good. Only the bounds of a histogram are checked.
 fn is_good(about: &About<'_>) -> bool
     ensures { result ≡ is_good about.now }
 {
@@ -50,7 +38,12 @@ fn is_good(about: &About<'_>) -> bool
     };
     validate_instrument_name(about.name.as_str()).is_ok()
         && validate_instrument_unit(unit).is_ok()
-        && has_good_bounds(about)
+        && match (about.kind, about.bounds) {
+            (InstrumentKind::Histogram, Some(bounds)) => {
+                validate_bucket_boundaries(bounds.as_slice()).is_ok()
+            }
+            _ => true,
+        }
 }
 
 /// Returns the scope of the meter that a build names, or none if it names no meter.

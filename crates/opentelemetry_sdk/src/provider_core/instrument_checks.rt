@@ -29,26 +29,11 @@ const BOUNDS: &str = "Bucket boundaries must be sorted and non-duplicate";
 /// The greatest length of a name, in bytes.
 const NAME_MAX: usize = 255;
 
-fn is_name_character(byte: u8) -> bool
-    ensures { result ≡ is_name_byte byte }
-{
-    byte.is_ascii_alphanumeric() || matches!(byte, b'_' | b'.' | b'-' | b'/')
-}
-
-/// Whether there is a first byte and it is not an ASCII letter.
-fn starts_with_no_letter(bytes: &[u8]) -> bool
-    ensures { result ≡ starts_badly bytes.now }
-{
-    match bytes {
-        [] => false,
-        [first, ..] => !first.is_ascii_alphabetic(),
-    }
-}
-
 fn has_other_character(bytes: &[u8]) -> bool
     ensures { result ≡ list_any (λ b. not (is_name_byte b)) bytes.now }
 {
-    bytes.iter().any(|byte| !is_name_character(*byte))
+    bytes.iter().any(|byte| !byte.is_ascii_alphanumeric()
+        && !matches!(byte, b'_' | b'.' | b'-' | b'/'))
 }
 
 /// Checks that a name is good: 1 to 255 bytes, of which the first is an ASCII letter and the others are ASCII letters,
@@ -60,13 +45,13 @@ pub fn validate_instrument_name(name: &str) -> Result<(), MetricError>
     ensures { IsAnswer (option_map name_fault_text (name_fault name.now)) result }
 {
     let bytes = name.as_bytes();
-    if bytes.is_empty() {
+    let [first, ..] = bytes else {
         return Err(MetricError::InvalidInstrumentConfiguration(NAME_EMPTY));
-    }
+    };
     if bytes.len() > NAME_MAX {
         return Err(MetricError::InvalidInstrumentConfiguration(NAME_LENGTH));
     }
-    if starts_with_no_letter(bytes) {
+    if !first.is_ascii_alphabetic() {
         return Err(MetricError::InvalidInstrumentConfiguration(NAME_FIRST));
     }
     if has_other_character(bytes) {

@@ -6,7 +6,8 @@ use Rattle.opentelemetry_sdk.specs.pipeline.Streams.{StreamContents, contents_af
 use Rattle.opentelemetry_sdk.proofs.pipeline.Answered.{answer_of, answers-observed, answers-settled}
 use Rattle.opentelemetry_sdk.proofs.pipeline.Handles.{observable-in}
 use Rattle.opentelemetry_sdk.proofs.pipeline.Observes.{observed-finished, observed-is}
-use Rattle.opentelemetry_sdk.proofs.pipeline.Outcomes.{either, IfOk-both, OnErr-weaker, OnOk-weaker}
+use Rattle.std.proofs.lemmas.Result.{on_ok_weaker, on_err_weaker}
+use Rattle.opentelemetry_sdk.proofs.pipeline.Outcomes.{either, IfOk-both}
 use Rattle.opentelemetry_sdk.proofs.pipeline.PipelineLemmas.{settled-part, sound-same}
 use Rattle.opentelemetry_sdk.proofs.pipeline.Pipeline.collect.Goals as goal
 
@@ -43,10 +44,10 @@ pub returns-clause-ok : goal.returns-clause-ok
 returns-clause-ok c =
     let p : Piped = record { answers = c.self.inside.answers; streams = c.self.inside.streams.items; feeds = c.self.inside.feeds.items; hash_seed = c.self.inside.hasher.seed } in
     let lawful : IsLawful p = rw (← c.self.view_is) at c.law_of_identities.ensures in
-    rw (← c.self.view_is) (OnOk-weaker c.collect_observed.result
+    rw (← c.self.view_is) (on_ok_weaker c.collect_observed.result
     (λ e r. observed-finished r c.args.now c.args.observations.now p c.collect_observed.new.streams.items lawful (rw (← c.self.view_is) at c.requires.typed) c.self.invariant.2 (rw c.deref.ensures.value at e))
     c.collect_observed.ensures.streams)
 
 pub returns-clause-err : goal.returns-clause-err
 returns-clause-err c =
-    rw (← c.self.view_is) (OnErr-weaker c.collect_observed.result (λ e. settled-part c.self.inside.answers c.collect_observed.new.streams.items c.self.inside.streams.items c.self.inside.feeds.items e) c.collect_observed.ensures.undone)
+    rw (← c.self.view_is) (on_err_weaker c.collect_observed.result (λ e. settled-part c.self.inside.answers c.collect_observed.new.streams.items c.self.inside.streams.items c.self.inside.feeds.items e) c.collect_observed.ensures.undone)

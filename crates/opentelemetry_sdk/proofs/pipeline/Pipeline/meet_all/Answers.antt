@@ -4,7 +4,7 @@ use Rattle.std.specs.Option.{option_map}
 use denote.Bor.{Bor}
 use Rattle.otel_common.specs.declared.scopes.InstrumentationScope.{InstrumentationScope}
 use Rattle.otel_model.specs.Calls.{About}
-use Rattle.otel_model.specs.Demands.{Demand, ReaderAnswers, StreamSpec, own_demand}
+use Rattle.otel_model.specs.Demands.{Demand, ReaderAnswers, StreamSpec, demand_of, own_demand}
 use Rattle.opentelemetry_sdk.specs.pipeline.Pipelines.{AreMet, Piped}
 use Rattle.opentelemetry_sdk.specs.pipeline.Views.{demands_own, usable_answer, usable_demands}
 use Rattle.opentelemetry_sdk.proofs.pipeline.Meets.{longer-refl, longer-trans, met-none}
@@ -65,5 +65,5 @@ returns-clause-met c =
     subst (λ l. AreMet c.args.now (usable_demands old.answers c.in-Some.scope.now c.args.about.now l) old c.loop-answer.self c.loop-answer.feeds.items) (take_all c.loop-answer.answer-index l (omega (arith, c.loop-answer-test.false))) c.loop-answer.invariant.met in
     let demands = demands-with old.answers c.in-Some.scope.now c.args.about.now c.args.now old c.loop-answer.self (scope_in c.args.scope) l c.loop-answer.feeds.items true refl (ap scope_in c.in-Some.is) c.requires all told in
     let own : c.in_ok-demand.demand ≡ own_demand old.answers c.in-Some.scope.now c.args.about.now =
-    c.in_ok-demand.ensures.demand ∙ (ap (λ (p : Piped). own_demand p.answers c.in-Some.scope.now c.args.about.now) c.self-2.view_is ∙ ap (λ (a : ReaderAnswers). own_demand a c.in-Some.scope.now c.args.about.now) c.loop-answer.invariant.longer.answers) in
+    c.in_ok-demand.ensures.demand ∙ ap (demand_of c.self-2.inside.answers c.in-Some.scope.now c.args.about.now) c.default.ensures ∙ (ap (λ (p : Piped). own_demand p.answers c.in-Some.scope.now c.args.about.now) c.self-2.view_is ∙ ap (λ (a : ReaderAnswers). own_demand a c.in-Some.scope.now c.args.about.now) c.loop-answer.invariant.longer.answers) in
     subst (λ ds. AreMet c.args.now ds old c.meet.new.self c.meet.new.feeds.items) (sym (demands ∙ ap (λ (d : Demand). usable_demands old.answers c.in-Some.scope.now c.args.about.now l ++ d ∷ []) (sym own))) (c.in_ok-meet.ensures.met old _ all)

@@ -4,7 +4,7 @@ use Rattle.otel_model.specs.Demands.{Demand, demand_of}
 use Rattle.opentelemetry_sdk.specs.pipeline.Pipelines.{AreMet, Piped}
 use Rattle.opentelemetry_sdk.specs.pipeline.Views.{can_keep, usable_answer}
 use Rattle.opentelemetry_sdk.proofs.pipeline.Meets.{longer-refl}
-use Rattle.opentelemetry_sdk.proofs.pipeline.Outcomes.{OnOk-weaker}
+use Rattle.std.proofs.lemmas.Result.{on_ok_weaker}
 use Rattle.opentelemetry_sdk.proofs.pipeline.ViewLemmas.{fit-demands, unfit-demands, met-same}
 use Rattle.opentelemetry_sdk.proofs.pipeline.Pipeline.meet_answer.Goals as goal
 
@@ -38,6 +38,6 @@ returns-clause-met c =
     c.in_ok-demand.ensures.demand ∙ ap (λ (p : Piped). demand_of p.answers c.args.scope.now c.args.about.now c.in-Some.stream) c.self.view_is in
     let kind = ap (λ (a : About). can_keep a.kind c.in-Some.stream.aggregation) c.about.view_is in
     let usable = ap (usable_answer c.args.self.now.answers c.args.scope.now c.args.about.now) c.in-Some.is ∙ fit-demands c.args.self.now.answers c.args.scope.now c.args.about.now c.in-Some.stream (sym kind ∙ (sym c.can_keep.ensures ∙ c.if-not-can_keep.false)) in
-    OnOk-weaker c.meet.result
+    on_ok_weaker c.meet.result
     (λ met before ds was. subst (λ (more : List Demand). AreMet c.args.now (ds ++ more) before c.meet.new.self c.meet.new.feeds.items) (ap (λ (x : Demand). x ∷ []) same ∙ sym usable) (met before ds was))
     c.meet.ensures.met

@@ -10,14 +10,14 @@ use Rattle.opentelemetry_sdk.proofs.pipeline.observing.observe_each.Goals as goa
 
 pub loop-observation-init : goal.loop-observation-init
 loop-observation-init c =
-    let e = c.in_ok-drafts.ensures.drafts in
+    let e = c.loop.invariant in
     let ks = c.args.streams.now.items in
-    let many : c.len.result ≡ length ks = omega (arith, c.len.ensures, c.args.streams.now.ok.0) in
+    let many : c.loop.counter ≡ length ks = omega (arith, c.loop-test.false, c.loop.auto.counter-end, c.len-end.ensures, c.args.streams.now.ok.0) in
     record {
       same = refl;
       long = ap length e ∙ (length-replicate _ _ ∙ many);
-      fits = subst (λ ds. AreDraftsOf ds ks) (sym e) (none-fits c.len.result ks many);
-      observed = ap (λ ds. drafted_all ds ks) e ∙ none-drafted c.len.result ks;
+      fits = subst (λ ds. AreDraftsOf ds ks) (sym e) (none-fits c.loop.counter ks many);
+      observed = ap (λ ds. drafted_all ds ks) e ∙ none-drafted c.loop.counter ks;
     }
 
 pub loop-k-init : goal.loop-k-init

@@ -1,4 +1,4 @@
-use Rattle.std.proofs.Common.{◌≡◌, drop, take, length}
+use Rattle.std.proofs.Common.{◌≡◌, None, drop, take, length, replicate}
 use Rattle.opentelemetry_sdk.specs.pipeline.Observations.{AreDraftsOf, drafted_all, observed_all}
 use Rattle.opentelemetry_sdk.specs.pipeline.Pipelines.{all_without_pending, changed_each}
 use Rattle.opentelemetry_sdk.specs.pipeline.Streams.{contents_after_record}
@@ -22,3 +22,7 @@ invariant-loop-k l = record {
   left : changed_each (contents_after_record l.observation.value l.observation.attributes) (drop l.k-index l.numbers) (drafted_all l.drafts.items l.streams.items)
       ≡ changed_each (contents_after_record l.observation.value l.observation.attributes) l.numbers (drafted_all l.initial.drafts.items l.initial.streams.items);
 }
+
+-- no draft is made yet
+abbrev pub invariant-loop : goal.invariant-loop
+invariant-loop l = l.drafts.items ≡ replicate l.counter None

@@ -1,6 +1,6 @@
 use Rattle.std.proofs.Common.{◌≡◌, ◌≤◌, length, map, take, vec_len}
 use Rattle.std.specs.Prelude.{vec_capacity}
-use Rattle.opentelemetry_sdk.proofs.provider_core.asking.ask_each.Given as goal
+use Rattle.opentelemetry_sdk.proofs.provider_core.asking.ask_in.Given as goal
 
 -- the answers of the views so far, and room for the others
 abbrev pub invariant-loop-view : goal.invariant-loop-view
