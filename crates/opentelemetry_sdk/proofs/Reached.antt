@@ -1,9 +1,8 @@
 -- What calls make of readers, one call after another.
-use Rattle.std.proofs.Common.{◌≡◌, ℕ, ◌+◌, ◌<◌, Bool, true, false, cond, List, [], ◌∷◌, ◌++◌, map, length, take, get_or, Option, Some, None, Result, Ok, Err, refl, sym, ◌∙◌, ap, subst, true≢false}
+use Rattle.std.proofs.Common.{◌≡◌, ℕ, Bool, true, false, cond, List, [], ◌∷◌, length, Option, Some, None, Result, Ok, Err, refl, sym, ◌∙◌, ap, subst, true≢false}
 use Rattle.std.specs.Prelude.{IsTrue, IfOk, OnErr}
 use Rattle.std.specs.List.{list_any}
 use Rattle.std.proofs.lemmas.Bool.{or_parts}
-use Rattle.std.proofs.lemmas.List.{map-append, take_more}
 use Rattle.otel_common.specs.declared.faults.Fault.{Fault}
 use Rattle.otel_common.specs.declared.faults.Fault.TheVariants as fault
 use Rattle.otel_model.specs.Calls as model
@@ -11,13 +10,11 @@ use Rattle.otel_model.specs.Demands.{Views}
 use Rattle.otel_model.specs.Machine.{accepted_after}
 use Rattle.otel_model.specs.Refusals.{refusal}
 use Rattle.otel_model.specs.State.{State}
-use Rattle.otel_model.specs.Steps.{Step, Run, answer_of, after, after_by, reply_by, asks_readers}
+use Rattle.otel_model.specs.Steps.{Step, answer_of, after, after_by, reply_by, asks_readers}
 use Rattle.otel_model.specs.Steps as steps
 use Rattle.otel_stream.specs.Requests.{Outcome, AllAsked, outcome_of, outcome_by, failures, first_failure}
-use Rattle.opentelemetry_sdk.specs.Correspondence.{call_of, reply_of, reply_to}
+use Rattle.opentelemetry_sdk.specs.Correspondence.{reply_to}
 use Rattle.opentelemetry_sdk.specs.Readers.{AreReached, StepReaches, RunReaches, shut_after}
-use Rattle.opentelemetry_sdk.specs.declared.calls.Call.{Call}
-use Rattle.opentelemetry_sdk.specs.declared.calls.Reply.{Reply}
 
 -- ======== a flush or a shutdown is a call of the machine ========
 by-outcome : (views : Views) (old new : State) (call : model.Call) (failed : ℕ) (first : Option ℕ) → IsTrue (asks_readers call) → refusal old.shared (length old.readers) call ≡ None
@@ -89,35 +86,6 @@ pub shut-step : (views : Views) (old new : State) (call : model.Call) (reply : m
 shut-step views old new call (model.Reply.Refused model.Fault.OutOfMemory) step = ap (λ (st : State). st.shared.shut) step.2 ∙ sym (memory-shut call old.shared.shut step.0)
 shut-step views old new call (model.Reply.Refused (model.Fault.ReadersFailed failed first)) step = ap (λ (st : State). st.shared.shut) step.2 ∙ shut-after views old call
 shut-step views old new call reply step = ap (λ (st : State). st.shared.shut) step.1 ∙ shut-after views old call
-
--- ======== a list of calls ========
--- a call after others reaches the readers that they left
-reaches-push : {R : Type 0} (flushes : R → R → Outcome → Type 0) (shuts : R → ℕ → R → Outcome → Type 0) (views : Views) (calls : List model.Call) (replies : List model.Reply) (old mid : State) (before between after : List R) (call : model.Call) (reply : model.Reply)
-    → Run views old calls replies mid → RunReaches flushes shuts old.shared.shut calls before replies between → StepReaches flushes shuts mid.shared.shut call between reply after
-    → RunReaches flushes shuts old.shared.shut (calls ++ call ∷ []) before (replies ++ reply ∷ []) after
-reaches-push {R} flushes shuts views [] [] old mid before between after call reply run reaches step =
-    let P : List R → Type 0 = λ rs. StepReaches flushes shuts old.shared.shut call rs reply after in
-    (after, subst P reaches (subst (λ (st : State). StepReaches flushes shuts st.shared.shut call between reply after) run step), refl)
-reaches-push flushes shuts views (c ∷ calls) (r ∷ replies) old mid before between after call reply run reaches step =
-    let next : State = run.0 in
-    let same : next.shared.shut ≡ shut_after old.shared.shut c = shut-step views old next c r run.1 in (
-      reaches.0,
-      reaches.1,
-      subst (λ b. RunReaches flushes shuts b (calls ++ call ∷ []) reaches.0 (replies ++ reply ∷ []) after) same
-          (reaches-push flushes shuts views calls replies next mid reaches.0 between after call reply run.2 (subst (λ b. RunReaches flushes shuts b calls reaches.0 replies between) (sym same) reaches.2) step),
-    )
-reaches-push flushes shuts views calls replies old mid before between after call reply run reaches step = absurd run
-
--- the calls so far and one more
-pub reaches-more : {R : Type 0} (flushes : R → R → Outcome → Type 0) (shuts : R → ℕ → R → Outcome → Type 0) (views : Views) (calls : List Call) (i : ℕ) (call : Call) (replies more : List Reply) (old mid : State) (before between after : List R) (reply : Reply)
-    → i < length calls → call ≡ get_or calls i call → more ≡ replies ++ reply ∷ []
-    → Run views old (map call_of (take i calls)) (map reply_of replies) mid
-    → RunReaches flushes shuts old.shared.shut (map call_of (take i calls)) before (map reply_of replies) between
-    → StepReaches flushes shuts mid.shared.shut (call_of call) between (reply_of reply) after
-    → RunReaches flushes shuts old.shared.shut (map call_of (take (i + 1) calls)) before (map reply_of more) after
-reaches-more flushes shuts views calls i call replies more old mid before between after reply h at e run reaches step =
-    let longer : take (i + 1) calls ≡ take i calls ++ call ∷ [] = take_more calls i call h ∙ ap (λ x. take i calls ++ x ∷ []) (sym at) in
-    rw (longer, e, map-append, map-append) (reaches-push flushes shuts views (map call_of (take i calls)) (map reply_of replies) old mid before between after (call_of call) (reply_of reply) run reaches step)
 
 -- ======== calls that ask no readers ========
 step-unasked : {R : Type 0} (flushes : R → R → Outcome → Type 0) (shuts : R → ℕ → R → Outcome → Type 0) (shut : Bool) (call : model.Call) (before after : List R) (reply : model.Reply)

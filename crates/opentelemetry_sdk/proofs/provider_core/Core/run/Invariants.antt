@@ -1,9 +1,6 @@
 use Rattle.std.proofs.Common.{◌≡◌, ◌≤◌, length, map, take, vec_len}
 use Rattle.std.specs.Prelude.{vec_capacity}
-use Rattle.otel_model.specs.Steps.{Run}
 use Rattle.otel_stream.specs.Requests.{wanted_by}
-use Rattle.opentelemetry_sdk.specs.Correspondence.{call_of, reply_of}
-use Rattle.opentelemetry_sdk.specs.Readers.{RunReaches}
 use Rattle.opentelemetry_sdk.proofs.KnownRuns.{KnownRun}
 use Rattle.opentelemetry_sdk.proofs.provider_core.Core.run.Given as goal
 
@@ -12,9 +9,7 @@ abbrev pub invariant-loop-call : goal.invariant-loop-call
 invariant-loop-call g l = record {
   many : vec_len l.replies ≡ l.call-index;
   room : length l.calls ≤ vec_capacity l.replies;
-  so_far : Run (map g.V.View.answer l.views) l.initial.self.state (map call_of (take l.call-index l.calls)) (map reply_of l.replies.items) l.self.state;
-  known : KnownRun (map g.V.View.answer l.views) l.initial.self.state (take l.call-index l.calls) l.replies.items l.self.state;
-  reached : RunReaches g.R.MetricReader.flushes g.R.MetricReader.shuts l.initial.self.state.shared.shut (map call_of (take l.call-index l.calls)) l.initial.readers (map reply_of l.replies.items) l.readers;
+  so_far : KnownRun (map g.V.View.answer l.views) g.R.MetricReader.flushes g.R.MetricReader.shuts (l.initial.self.state, l.initial.readers) (take l.call-index l.calls) l.replies.items (l.self.state, l.readers);
   seeded : l.self.hash_seed ≡ l.initial.self.hash_seed;
   wants : map (wanted_by g.R.MetricReader.preference g.R.MetricReader.limit g.R.MetricReader.aggregation) l.readers ≡ map (wanted_by g.R.MetricReader.preference g.R.MetricReader.limit g.R.MetricReader.aggregation) l.initial.readers;
 }
