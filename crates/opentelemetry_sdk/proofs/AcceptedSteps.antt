@@ -49,33 +49,18 @@ refused_same old p f new step = ⊎_elim
 abbrev pub IsResult : Result (Unit {0}) Fault → State → PendingRecord → State → Type 0
 IsResult r old p new = (views : Views) → Step views old (call_in p) (reply_from (λ _. Reply.Done) r) new
 
-pub made-done : (r : Result (Unit {0}) Fault) (old : State) (p : PendingRecord) (new : State) → IsResult r old p new → OnOk r (IsDone old (call_in p) new)
-made-done (Ok u) old p new step = step
-made-done (Err f) old p new step = tt
+-- a record that is made counts 1, and its value is added
+added_of_one : (old : State) (p : PendingRecord) (new : State) → IsDone old (call_in p) new → (count_in new % 2 ^ 64 ≡ (count_in old + 1) % 2 ^ 64) × (sum_in new % 2 ^ 64 ≡ (sum_in old + bits_in p) % 2 ^ 64)
+added_of_one old (pending.Plain n v l) new done = call_law [] old (Record n (number_of v) l) Reply.Done new (done [])
+added_of_one old (pending.Bound h v) new done = call_law [] old (RecordBound h (number_of v)) Reply.Done new (done [])
 
-pub made-refused : (r : Result (Unit {0}) Fault) (old : State) (p : PendingRecord) (new : State) → IsResult r old p new → IfErr r (λ f. IsRefused old (call_in p) f × (new ≡ old))
-made-refused (Ok u) old p new step = tt
-made-refused (Err f) old p new step =
+pub made : (r : Result (Unit {0}) Fault) (old : State) (p : PendingRecord) (new : State) → IsResult r old p new
+    → OnOk r (IsDone old (call_in p) new × (count_in new % 2 ^ 64 ≡ (count_in old + 1) % 2 ^ 64) × (sum_in new % 2 ^ 64 ≡ (sum_in old + bits_in p) % 2 ^ 64)) × IfErr r (λ f. IsRefused old (call_in p) f × (new ≡ old))
+made (Ok u) old p new step = let added = added_of_one old p new step in ((step, added.0, added.1), tt)
+made (Err f) old p new step =
     let same : new ≡ old = refused_same old p (fault_of f) new (step []) in
-    (λ views. subst (λ st. Step views old (call_in p) (Reply.Refused (fault_of f)) st) same (step views), same)
-
--- a record that is made counts 1
-count_of_one : (old : State) (p : PendingRecord) (new : State) → IsDone old (call_in p) new → count_in new % 2 ^ 64 ≡ (count_in old + 1) % 2 ^ 64
-count_of_one old (pending.Plain n v l) new done = (call_law [] old (Record n (number_of v) l) Reply.Done new (done [])).0
-count_of_one old (pending.Bound h v) new done = (call_law [] old (RecordBound h (number_of v)) Reply.Done new (done [])).0
-
-pub made-count : (r : Result (Unit {0}) Fault) (old : State) (p : PendingRecord) (new : State) → IsResult r old p new → OnOk r (count_in new % 2 ^ 64 ≡ (count_in old + 1) % 2 ^ 64)
-made-count (Ok u) old p new step = count_of_one old p new step
-made-count (Err f) old p new step = tt
-
--- and its value is added
-sum_of_one : (old : State) (p : PendingRecord) (new : State) → IsDone old (call_in p) new → sum_in new % 2 ^ 64 ≡ (sum_in old + bits_in p) % 2 ^ 64
-sum_of_one old (pending.Plain n v l) new done = (call_law [] old (Record n (number_of v) l) Reply.Done new (done [])).1
-sum_of_one old (pending.Bound h v) new done = (call_law [] old (RecordBound h (number_of v)) Reply.Done new (done [])).1
-
-pub made-sum : (r : Result (Unit {0}) Fault) (old : State) (p : PendingRecord) (new : State) → IsResult r old p new → OnOk r (sum_in new % 2 ^ 64 ≡ (sum_in old + bits_in p) % 2 ^ 64)
-made-sum (Ok u) old p new step = sum_of_one old p new step
-made-sum (Err f) old p new step = tt
+    let refused : IsRefused old (call_in p) f × (new ≡ old) = (λ views. subst (λ st. Step views old (call_in p) (Reply.Refused (fault_of f)) st) same (step views), same) in
+    (tt, refused)
 
 -- records that are made one after another
 pub done-adds : (old : State) (ps : List PendingRecord) (new : State) → AreDone old (map call_in ps) new
@@ -83,10 +68,9 @@ pub done-adds : (old : State) (ps : List PendingRecord) (new : State) → AreDon
 done-adds old [] new done = (ap (λ (st : State). count_in st % 2 ^ 64) done ∙ sym (ap wrap (plus_zero (count_in old))), ap (λ (st : State). sum_in st % 2 ^ 64) done ∙ sym (ap wrap (plus_zero (sum_in old))))
 done-adds old (p ∷ ps) new done =
     let rest = done-adds done.0 ps new done.2 in
-    let count = count_of_one old p done.0 done.1 in
-    let sum = sum_of_one old p done.0 done.1 in
+    let added = added_of_one old p done.0 done.1 in
     let more : sum_by bits_in (p ∷ ps) ≡ bits_in p + sum_by bits_in ps = sum_by-cons bits_in p ps in
-    (omega (arith, rest.0, count), omega (arith, rest.1, sum, more))
+    (omega (arith, rest.0, added.0), omega (arith, rest.1, added.1, more))
 
 -- ======== other calls ========
 adds_none : (amount : Amount → ℕ) (call : Call) → is_record call ≡ false → added_by amount call ≡ 0
@@ -103,8 +87,7 @@ added_none n amount call reply e =
     ap (λ k. wrap (n + if_done reply k)) (adds_none amount call e) ∙ (ap (λ k. wrap (n + k)) (none_if_done reply) ∙ ap wrap (plus_zero n))
 
 -- a call that is no record adds nothing
-pub other-count : (views : Views) (old new : State) (call : Call) (reply : Reply) → is_record call ≡ false → Step views old call reply new → count_in new % 2 ^ 64 ≡ count_in old % 2 ^ 64
-other-count views old new call reply e step = (call_law views old call reply new step).0 ∙ added_none (count_in old) one_each call reply e
-
-pub other-sum : (views : Views) (old new : State) (call : Call) (reply : Reply) → is_record call ≡ false → Step views old call reply new → sum_in new % 2 ^ 64 ≡ sum_in old % 2 ^ 64
-other-sum views old new call reply e step = (call_law views old call reply new step).1 ∙ added_none (sum_in old) bits_of call reply e
+pub other-adds : (views : Views) (old new : State) (call : Call) (reply : Reply) → is_record call ≡ false → Step views old call reply new → (count_in new % 2 ^ 64 ≡ count_in old % 2 ^ 64) × (sum_in new % 2 ^ 64 ≡ sum_in old % 2 ^ 64)
+other-adds views old new call reply e step =
+    let adds = call_law views old call reply new step in
+    (adds.0 ∙ added_none (count_in old) one_each call reply e, adds.1 ∙ added_none (sum_in old) bits_of call reply e)

@@ -1,7 +1,9 @@
 -- Tables of series.
 use Rattle.std.proofs.Common.{zero, suc, ◌≡◌, ◌∙◌, ℕ, Bool, false, List, [], ◌∷◌, ◌++◌, map, position, slice_get, Option, Some, None, is_some, refl, sym, ap, true≢false}
 use Rattle.std.specs.List.{AllByRecursion}
+use Rattle.std.proofs.lemmas.Option.{slice_get-map}
 use Rattle.std.specs.Map.{lookup}
+use Rattle.std.specs.Option.{option_map}
 use Rattle.indexmap.proofs.MapLemmas.{some_index}
 use Rattle.indexmap.specs.Layout.{set_value_at}
 use Rattle.opentelemetry_sdk.specs.Lent.{shared_list}
@@ -21,6 +23,10 @@ pub all-push : {X : Type 0} (P : X → Type 0) (xs : List X) (x : X) → AllByRe
 all-push P [] x h p = (p, tt)
 all-push P (y ∷ xs) x h p = (h.0, all-push P xs x h.1 p)
 
+-- the series at a place
+pub key-at : (es : List (Series × SharedAttributes)) (i : ℕ) (e : Series × SharedAttributes) → Some e ≡ slice_get es i → slice_get (map (λ e. e.0) es) i ≡ Some e.0
+key-at es i e at = slice_get-map (λ e. e.0) es i ∙ ap (option_map (λ e. e.0)) (sym at)
+
 -- the list of a series gets another owner
 pub lists-kept : (es : List (Series × SharedAttributes)) (i : ℕ) (v w : SharedAttributes) → slice_get (map (λ e. e.1) es) i ≡ Some v → shared_list w ≡ shared_list v → AllByRecursion IsListOf es → AllByRecursion IsListOf (set_value_at es i w)
 lists-kept [] i v w at same all = tt
@@ -30,9 +36,10 @@ lists-kept (e ∷ es) zero v w at same all =
 lists-kept (e ∷ es) (suc i) v w at same all = (all.0, lists-kept es i v w at same all.1)
 
 -- the list at a place is that of its series
-pub list-there : (es : List (Series × SharedAttributes)) (i : ℕ) (v : SharedAttributes) → slice_get (map (λ e. e.1) es) i ≡ Some v → AllByRecursion IsListOf es → (s : Series) × (slice_get (map (λ e. e.0) es) i ≡ Some s) × (shared_list v ≡ s.attributes)
-list-there [] i v at all = absurd (cc)
-list-there (e ∷ es) zero v at all =
-    let is : v ≡ e.1 = cc in
-    (e.0, refl, ap shared_list is ∙ all.0)
-list-there (e ∷ es) (suc i) v at all = list-there es i v at all.1
+pub list-at : (es : List (Series × SharedAttributes)) (i : ℕ) (e : Series × SharedAttributes) (v : SharedAttributes) → Some e ≡ slice_get es i → Some v ≡ slice_get (map (λ e. e.1) es) i → AllByRecursion IsListOf es → shared_list v ≡ e.0.attributes
+list-at [] i e v at is all = absurd (cc)
+list-at (x ∷ es) zero e v at is all =
+    let same : e ≡ x = cc in
+    let list : v ≡ x.1 = cc in
+    ap shared_list list ∙ all.0 ∙ sym (ap (λ (y : Series × SharedAttributes). y.0.attributes) same)
+list-at (x ∷ es) (suc i) e v at is all = list-at es i e v at is all.1

@@ -5,13 +5,8 @@ use Rattle.std.proofs.lemmas.List.{map-append, drop-drop}
 use Rattle.std.proofs.lemmas.List.Sums.{sum_by-append}
 use Rattle.otel_model.specs.Calls.{Call}
 use Rattle.otel_model.specs.State.{State}
-use Rattle.opentelemetry_sdk.specs.Pending.{call_in, bits_in, IsDone, AreDone, Makes, Submits}
+use Rattle.opentelemetry_sdk.specs.Pending.{call_in, bits_in, IsDone, AreDone, Submits}
 use Rattle.opentelemetry_sdk.specs.declared.metrics.shared.pending.PendingRecord.{PendingRecord}
-
--- one more call at the end
-pub done-more : (old : State) (calls : List Call) (mid : State) (call : Call) (new : State) → AreDone old calls mid → IsDone mid call new → AreDone old (calls ++ call ∷ []) new
-done-more old [] mid call new is done = (new, subst (λ st. IsDone st call new) is done, refl)
-done-more old (c ∷ calls) mid call new are done = (are.0, are.1, done-more are.0 calls mid call new are.2 done)
 
 -- the first of what is left goes to the end of what was taken
 pub taken-more : (ps : List PendingRecord) (n : ℕ) (p : PendingRecord) (rest : List PendingRecord) → n < length ps → p ∷ rest ≡ drop n ps → (take (n + 1) ps ≡ take n ps ++ p ∷ []) × (rest ≡ drop (n + 1) ps)
@@ -22,20 +17,11 @@ taken-more ps n p rest lt is =
     let taken = take-suc ps n p lt in
     (rw add-one (taken ∙ ap (λ q. take n ps ++ q ∷ []) (sym here)), later)
 
-submits-more : (old : State) (before : List PendingRecord) (mid : State) (after : List PendingRecord) (n v : ℕ) (new : State) (later : List PendingRecord) (p : PendingRecord) → Submits old before mid after n v → after ≡ p ∷ later → IsDone mid (call_in p) new → Submits old before new later (n + 1) (v + bits_in p)
-submits-more old before mid after n v new later p so_far first done =
-    let rest : p ∷ later ≡ drop n before = sym first ∙ so_far.rest in
-    let lt : n < length before = omega (arith, ap length rest, length-drop n before) in
-    let next = taken-more before n p later lt rest in
-    let calls : map call_in (take (n + 1) before) ≡ map call_in (take n before) ++ call_in p ∷ [] = ap (map call_in) next.0 ∙ map-append call_in (take n before) (p ∷ []) in
-    record {
-      within = omega arith;
-      rest = next.1;
-      runs = subst (λ cs. AreDone old cs new) (sym calls) (done-more old (map call_in (take n before)) mid (call_in p) new so_far.runs done);
-      total = omega (arith, so_far.total, ap (λ ps. sum_by bits_in ps) next.0, sum_by-append bits_in (take n before) (p ∷ []));
-    }
+-- the first record is one
+pub submits_one : (old : State) (before : List PendingRecord) (new : State) (after : List PendingRecord) (n v : ℕ) (p : PendingRecord) → before ≡ p ∷ after → IsDone old (call_in p) new → n ≡ 1 → v ≡ bits_in p → Submits old before new after n v
+submits_one old before new after n v p first done one value = rw (first, one) (record { within = omega arith; rest = refl; runs = (new, done, refl); total = omega (arith, value) })
 
-done-all : (old : State) (calls : List Call) (mid : State) (more : List Call) (new : State) → AreDone old calls mid → AreDone mid more new → AreDone old (calls ++ more) new
+pub done-all : (old : State) (calls : List Call) (mid : State) (more : List Call) (new : State) → AreDone old calls mid → AreDone mid more new → AreDone old (calls ++ more) new
 done-all old [] mid more new is are = subst (λ st. AreDone st more new) is are
 done-all old (c ∷ calls) mid more new so_far are = (so_far.0, so_far.1, done-all so_far.0 calls mid more new so_far.2 are)
 
@@ -57,12 +43,3 @@ submits-further old before mid after m₀ m v₀ v new later k w low least more 
     let count : m - m₀ + (k - m) ≡ k - m₀ = omega arith in
     let value : v - v₀ + (w - v) ≡ w - v₀ = omega arith in
     subst (λ n. Submits old before new later n (w - v₀)) count (subst (Submits old before new later (m - m₀ + (k - m))) value (submits-all old before mid after (m - m₀) (v - v₀) new later (k - m) (w - v) first next))
-
--- the same where both numbers are what was added to others
-pub submits-on : (old : State) (before : List PendingRecord) (mid : State) (after : List PendingRecord) (m₀ m v₀ v : ℕ) (new : State) (later : List PendingRecord) (k w : ℕ) → m₀ ≤ m → v₀ ≤ v → Submits old before mid after (m - m₀) (v - v₀) → Makes mid after new later v w → k ≡ m + 1 → Submits old before new later (k - m₀) (w - v₀)
-submits-on old before mid after m₀ m v₀ v new later k w low least so_far makes one =
-    let p : PendingRecord = makes.0 in
-    let step = submits-more old before mid after (m - m₀) (v - v₀) new later p so_far makes.1 makes.2 in
-    let count : m - m₀ + 1 ≡ k - m₀ = omega arith in
-    let value : v - v₀ + bits_in p ≡ w - v₀ = omega (arith, makes.3) in
-    subst (λ n. Submits old before new later n (w - v₀)) count (subst (Submits old before new later (m - m₀ + 1)) value step)

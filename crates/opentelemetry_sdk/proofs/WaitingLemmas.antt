@@ -1,8 +1,8 @@
 -- Lists of records that wait.
-use Rattle.std.proofs.Common.{Result, Ok, Err, OnOk, OnErr, position, IfSome, IfNone, Option, Some, None, is_some, true, true≢false, Contains, ◌≡◌, ◌∙◌, ℕ, ◌+◌, ◌<◌, List, [], ◌∷◌, ◌++◌, map, length, get_or, slice_get, drop, refl, sym, ap, add-one, drop-cons}
+use Rattle.std.proofs.Common.{position, IfSome, IfNone, Option, Some, None, is_some, true, true≢false, Contains, ◌≡◌, ◌∙◌, ℕ, ◌+◌, ◌<◌, List, [], ◌∷◌, ◌++◌, map, length, get_or, slice_get, drop, refl, sym, ap, add-one, arith, drop-cons}
 use Rattle.std.proofs.Math.Dec.{ltb}
 use Rattle.std.proofs.lemmas.Bool.{ltb-true}
-use Rattle.std.proofs.lemmas.List.{append-nil, drop-drop, drop-map, get_or_append_left}
+use Rattle.std.proofs.lemmas.List.{drop-drop, drop-map, get_or_append_left}
 use Rattle.std.proofs.lemmas.List.Folds.{list_any_at}
 use Rattle.std.proofs.lemmas.List.Quantifiers.{position-Some}
 use Rattle.std.proofs.lemmas.Option.{get_or_from_slice_get}
@@ -10,7 +10,6 @@ use Rattle.std.specs.List.{AllByRecursion, list_any}
 use Rattle.otel_data.specs.declared.numbers.NumberValue.{NumberValue}
 use Rattle.opentelemetry_sdk.specs.Series.{series, series_eq, series_eq-Decides}
 use Rattle.opentelemetry_sdk.specs.Waiting.{HasSeries, plain, record_in}
-use Rattle.otel_common.specs.declared.faults.Fault.{Fault}
 use Rattle.opentelemetry_sdk.specs.declared.metrics.shared.pending.PendingRecord.TheVariants as pending
 use Rattle.opentelemetry_sdk.specs.declared.metrics.shared.pending.WaitingRecord.{WaitingRecord}
 use Rattle.opentelemetry_sdk.specs.declared.metrics.shared.pending.WaitingRecord.TheVariants as waiting
@@ -60,7 +59,7 @@ pub grown : (ss more : List Series) (rs : List WaitingRecord) → AllByRecursion
 grown ss more [] all = refl
 grown ss more (r ∷ rs) all = (λ i. grown-at ss more r all.0 i ∷ grown ss more rs all.1 i)
 
--- what was added, if anything
-pub more-of : (r : Result ℕ Fault) (ss new : List Series) (s : Series) → OnOk r (new ≡ ss ++ s ∷ []) → OnErr r (new ≡ ss) → (more : List Series) × (new ≡ ss ++ more)
-more-of (Ok n) ss new s ok err = (s ∷ [], ok)
-more-of (Err f) ss new s ok err = ([], err ∙ sym (append-nil ss))
+pub has-grown : (n : ℕ) (rs : List WaitingRecord) → AllByRecursion (HasSeries n) rs → AllByRecursion (HasSeries (n + 1)) rs
+has-grown n [] all = tt
+has-grown n (waiting.Plain place value ∷ rs) all = (omega (arith, all.0), has-grown n rs all.1)
+has-grown n (waiting.Bound handle value ∷ rs) all = (tt, has-grown n rs all.1)

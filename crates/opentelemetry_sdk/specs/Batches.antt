@@ -1,27 +1,22 @@
 -- Records of series that are made one after another, while handles are held for the series that have several.
-use Rattle.std.specs.Prelude.{◌≡◌, ℕ, ◌+◌, ◌<◌, Bool, true, false, List, [], map, length, get_or, slice_get, All, Option, None, Some}
+use Rattle.std.specs.Prelude.{◌≡◌, ℕ, ◌+◌, ◌<◌, List, [], map, length, get_or, is_some, All, Option, None}
 use Rattle.std.specs.List.{AllByRecursion as EachOf}
 use Rattle.otel_model_stream.specs.Totals.{has_number}
 use Rattle.otel_model.specs.Calls.{Call, Record}
 use Rattle.otel_model.specs.State.{InstrumentState, ReaderPart, State}
-use Rattle.otel_model.specs.Temporary.{Temporary, AreDistinct, AreInParts, AreUnheld, parts_with}
+use Rattle.otel_model.specs.Temporary.{Temporary, AreInParts, AreUnheld, parts_with}
 use Rattle.opentelemetry_sdk.specs.Correspondence.{number_of}
 use Rattle.opentelemetry_sdk.specs.Pending.{AreDone}
 use Rattle.opentelemetry_sdk.specs.States.{IsSound}
 use Rattle.opentelemetry_sdk.specs.pipeline.Handles.{FeedsSynchronous}
+use Rattle.opentelemetry_sdk.specs.pipeline.Pipelines.{AreFedOnce}
 use Rattle.opentelemetry_sdk.specs.Series.{series}
 use Rattle.opentelemetry_sdk.specs.declared.metrics.shared.pending.ListedRecord.{ListedRecord}
 use Rattle.opentelemetry_sdk.specs.declared.metrics.shared.series.Series.{Series}
 
--- whether something is there
-abbrev pub is_there : Option (Option ℕ) → Bool
-is_there None = false
-is_there (Some None) = false
-is_there (Some (Some place)) = true
-
 -- exactly the numbers among these have a place
 abbrev pub AreMarked : List (Option ℕ) → List ℕ → Type 0
-AreMarked places ns = (n : ℕ) → is_there (slice_get places n) ≡ has_number n ns
+AreMarked places ns = (n : ℕ) → is_some (get_or places n None) ≡ has_number n ns
 
 -- the handle that is held for the series of this number
 abbrev pub temporary : ℕ → List Series → ℕ → Temporary
@@ -31,15 +26,18 @@ temporary first ss n = record { handle = first + n; instrument = (get_or ss n (s
 abbrev pub temporaries : ℕ → List Series → List ℕ → List Temporary
 temporaries first ss held = map (temporary first ss) held
 
+-- the series of this number is there, and its instrument feeds no observable stream
+abbrev pub IsRecorded : List Series → List ReaderPart → ℕ → Type 0
+IsRecorded ss ps n = (n < length ss) × EachOf (FeedsSynchronous (get_or ss n (series 0 [])).instrument) ps
+
 -- the parts qs are ps but for the handles of these series, which have their places there; no number of such a handle is
 -- in use in ps
 pub record IsHolding (first : ℕ) (ss : List Series) (held : List ℕ) (ps qs : List ReaderPart) : Type 0 where
   pub parts : qs ≡ parts_with (temporaries first ss held) ps
-  pub inside : All (λ n. n < length ss) held
-  pub distinct : AreDistinct (temporaries first ss held)
+  pub recorded : All (IsRecorded ss ps) held
+  pub once : AreFedOnce held
   pub settled : AreInParts (temporaries first ss held) ps
   pub unheld : (n : ℕ) → n < length ss → AreUnheld (first + n) ps
-  pub synchronous : All (λ n. EachOf (FeedsSynchronous (get_or ss n (series 0 [])).instrument) ps) held
 
 -- the record is of the series at its place
 abbrev pub IsListed : List Series → ListedRecord → Type 0

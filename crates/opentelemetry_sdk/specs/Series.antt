@@ -31,11 +31,6 @@ series_eq-Decides s t =
 abbrev pub series_writes : Series → HashWrites
 series_writes s = fed.u64 s.instrument ++ flat_map key_value_writes s.attributes
 
--- what contracts see of a table of series: how often it was emptied, and the series, in order of adding
-pub record Numbered : Type 0 where
-  pub emptied : ℕ
-  pub series : List Series
-
 -- the list that is shared out is that of the series
 abbrev pub IsListOf : Series × SharedAttributes → Type 0
 IsListOf e = shared_list e.1 ≡ e.0.attributes

@@ -10,7 +10,6 @@ mod holdings;
 mod locked;
 mod pending;
 mod series;
-mod series_table;
 mod waiting;
 mod worker;
 

@@ -12,7 +12,6 @@ use crate::provider_core::Core;
 use crate::provider_core::checks::check_value;
 use crate::provider_core::each_pipeline::record_or_none;
 use otel_aggregate::value_map::hashed_key::GivenAttributes;
-use otel_common::attributes::KeyValue;
 use otel_common::faults::Fault;
 use otel_data::numbers::NumberValue;
 
@@ -21,28 +20,6 @@ impl Core {
     /// feeds or in none.
     #[inline(always)]
     pub fn record(
-        &mut self,
-        identity: u64,
-        instrument: usize,
-        value: NumberValue,
-        attributes: &[KeyValue],
-    ) -> Result<(), Fault>
-        ensures step { identity ≡ self.old.state.shared.identity → (views : Views) → Step views self.old.state (model.Call.Record instrument (number_of value) attributes.now) (reply_from (λ _. model.Reply.Done) result) self.new.state }
-        ensures foreign { ¬ (identity ≡ self.old.state.shared.identity) → (result ≡ Err Fault.UnknownInstrument) × (self.new.state ≡ self.old.state) }
-        ensures known { is_known instrument attributes.now self.old.state ≡ true → IfErr result IsNamed }
-        ensures seeded { self.new.hash_seed ≡ self.old.hash_seed }
-    {
-        self.record_given(
-            identity,
-            instrument,
-            value,
-            &GivenAttributes::new(attributes),
-        )
-    }
-
-    /// Does what `record` does with attributes that may have their hash.
-    #[inline(always)]
-    pub fn record_given(
         &mut self,
         identity: u64,
         instrument: usize,

@@ -13,6 +13,7 @@ use crate::calls::{Call, Reply};
 use crate::pipeline::about::About;
 use crate::provider_core::Core;
 use crate::provider_core::handles::BoundHandle;
+use otel_aggregate::value_map::hashed_key::GivenAttributes;
 use otel_common::faults::Fault;
 use otel_stream::reader::MetricReader;
 use otel_stream::view::View;
@@ -50,7 +51,10 @@ impl Core {
                 instrument,
                 value,
                 attributes,
-            } => done(self.record(identity, *instrument, *value, attributes.as_slice())),
+            } => {
+                let given = GivenAttributes::new(attributes.as_slice());
+                done(self.record(identity, *instrument, *value, &given))
+            }
             Call::RecordBound { handle, value } => {
                 let handle = BoundHandle::numbered(*handle);
                 done(self.record_bound(identity, handle, *value))

@@ -14,6 +14,7 @@ ghost use Rattle.opentelemetry_sdk.specs.Typed.{IsInstrumentOf, instrument_numbe
 
 use crate::parts::Parts;
 use crate::provider::Provider;
+use otel_aggregate::value_map::hashed_key::GivenAttributes;
 use otel_common::attributes::KeyValue;
 use otel_common::faults::Fault;
 use otel_data::numbers::NumberType;
@@ -122,9 +123,10 @@ impl<K: Adds, T: NumberType> Synchronous<K, T> {
         ensures views { provider_views provider.new ≡ provider_views provider.old }
         ensures callbacks { callbacks_of provider.new ≡ callbacks_of provider.old }
     {
+        let given = GivenAttributes::new(attributes);
         let made = provider
             .core
-            .record(self.identity, self.number, value.into_value(), attributes);
+            .record(self.identity, self.number, value.into_value(), &given);
         provider.core.law_of_state();
         made
     }
@@ -149,9 +151,10 @@ impl<K: Records, T: NumberType> Synchronous<K, T> {
         ensures views { provider_views provider.new ≡ provider_views provider.old }
         ensures callbacks { callbacks_of provider.new ≡ callbacks_of provider.old }
     {
+        let given = GivenAttributes::new(attributes);
         let made = provider
             .core
-            .record(self.identity, self.number, value.into_value(), attributes);
+            .record(self.identity, self.number, value.into_value(), &given);
         provider.core.law_of_state();
         made
     }

@@ -86,7 +86,7 @@ fn answer_to(core: &mut Core, pending: &LentRecord<'_>) -> Result<(), Fault>
             instrument,
             value,
             attributes,
-        } => core.record_given(identity, *instrument, *value, attributes),
+        } => core.record(identity, *instrument, *value, attributes),
         LentRecord::Bound { handle, value } => {
             core.record_bound(identity, BoundHandle::numbered(*handle), *value)
         }
@@ -95,10 +95,8 @@ fn answer_to(core: &mut Core, pending: &LentRecord<'_>) -> Result<(), Fault>
 
 /// Makes a record. What all instruments accepted grows by it, unless it is refused.
 fn make(core: &mut Core, pending: &LentRecord<'_>) -> Result<(), Fault>
-    ensures done { OnOk result (IsDone core.old.state (call_in (lent_record pending.now)) core.new.state) }
+    ensures done { OnOk result (IsDone core.old.state (call_in (lent_record pending.now)) core.new.state × (count_in core.new.state % 2 ^ 64 ≡ (count_in core.old.state + 1) % 2 ^ 64) × (sum_in core.new.state % 2 ^ 64 ≡ (sum_in core.old.state + bits_in (lent_record pending.now)) % 2 ^ 64)) }
     ensures seeded { core.new.hash_seed ≡ core.old.hash_seed }
-    ensures count { OnOk result (count_in core.new.state % 2 ^ 64 ≡ (count_in core.old.state + 1) % 2 ^ 64) }
-    ensures sum { OnOk result (sum_in core.new.state % 2 ^ 64 ≡ (sum_in core.old.state + bits_in (lent_record pending.now)) % 2 ^ 64) }
     ensures refused { IfErr result (λ f. IsRefused core.old.state (call_in (lent_record pending.now)) f × (core.new.state ≡ core.old.state)) }
     ensures known { IsKnown core.old.state (call_in (lent_record pending.now)) → IfErr result IsNamed }
 {

@@ -7,8 +7,11 @@ ghost use Rattle.opentelemetry_sdk.specs.Series.{series, series_eq};
 ghost use Rattle.opentelemetry_sdk.specs.Waiting.{HasSeries, KeepsSeries, lent_record, record_in, series_placed};
 
 use crate::calls::Call;
+use crate::calls::record_attributes::SharedAttributes;
 use crate::metrics::shared::pending::{LentRecord, ListedRecord, PendingRecord, WaitingRecord};
-use crate::metrics::shared::series_table::SeriesTable;
+use crate::metrics::shared::series::{Series, SeriesQuery};
+use indexmap::IndexMap;
+use otel_aggregate::value_map::hashed_key::OwnedSet;
 use otel_aggregate::value_map::hashing::SetHashBuilder;
 use otel_common::attributes::KeyValue;
 use otel_common::faults::Fault;
@@ -22,7 +25,10 @@ pub const MOST_SERIES: usize = 1000;
 
 /// The series that a worker knows, and the records that wait.
 pub(crate) struct Waiting {
-    table: SeriesTable,
+    /// How often all series were let go. A place names one series as long as that stays the same.
+    emptied: u64,
+    /// The series, each with its list to share out.
+    series: IndexMap<Series, SharedAttributes, SetHashBuilder>,
     /// The records that are made and not yet let go, and after them those that wait to be made.
     records: Vec<WaitingRecord>,
     /// How many records at the front are made.
@@ -33,25 +39,28 @@ impl Model for Waiting {
     ghost use Rattle.std.specs.Prelude.{◌-◌, ◌≤◌, length, map, drop};
     ghost use Rattle.std.specs.List.{AllByRecursion};
     ghost use Rattle.std.specs.Vec.{vec_capacity};
+    ghost use Rattle.indexmap.specs.IndexMap.{keys};
+    ghost use Rattle.opentelemetry_sdk.specs.Series.{IsListOf};
     ghost use Rattle.opentelemetry_sdk.specs.Waiting.{Waits, HasSeries, record_in};
 
     ghost Value = { Waits };
 
     ghost view = { λ w. record {
-      emptied = w.table.emptied;
-      series = w.table.series;
-      records = map (record_in w.table.series) (drop w.made w.records.items);
+      emptied = w.emptied;
+      series = keys w.series;
+      records = map (record_in (keys w.series)) (drop w.made w.records.items);
       room = vec_capacity w.records - length w.records.items;
     } };
 
-    ghost invariant = { λ w. (w.made ≤ length w.records.items) × AllByRecursion (HasSeries (length w.table.series)) w.records.items };
+    ghost invariant = { λ w. (w.made ≤ length w.records.items) × AllByRecursion (HasSeries (length (keys w.series))) w.records.items × AllByRecursion IsListOf w.series.entries };
 }
 
 impl Drop for Waiting {
     /// A function of its own, so that no proof about who lets one go looks into it.
     fn drop(self) {
         let Waiting {
-            table: _table,
+            emptied: _,
+            series: _series,
             records: _records,
             made: _,
         } = self;
@@ -64,7 +73,8 @@ impl Waiting {
         ensures { (result.emptied ≡ 0) × (result.series ≡ []) × (result.records ≡ []) }
     {
         Waiting {
-            table: SeriesTable::new(alloc, hasher),
+            emptied: 0,
+            series: IndexMap::with_hasher(alloc, hasher),
             records: Vec::new(alloc),
             made: 0,
         }
@@ -84,7 +94,7 @@ impl Waiting {
     {
         match *self.records.get(self.made)? {
             WaitingRecord::Plain { place, value } => {
-                let series = self.table.at(place)?;
+                let (series, _) = self.series.get_index(place)?;
                 Some(LentRecord::Plain {
                     instrument: series.instrument,
                     value,
@@ -99,7 +109,7 @@ impl Waiting {
     pub(crate) fn count_series(&self) -> usize
         ensures { result ≡ length self.now.series }
     {
-        self.table.len()
+        self.series.len()
     }
 
     /// How many records wait before the first one through a handle; 0 if one that isn't through a handle was just made.
@@ -117,7 +127,7 @@ impl Waiting {
 
     /// How many of the first records that wait, up to this many, are of each series, by the places of the series.
     pub(crate) fn counts(&self, alloc: Global, most: usize) -> Result<Vec<u32>, AllocError> {
-        let mut counts = Vec::from_elem(alloc, 0, self.table.len())?;
+        let mut counts = Vec::from_elem(alloc, 0, self.series.len())?;
         for record in self.records[self.made..].iter().take(most) {
             if let WaitingRecord::Plain { place, .. } = *record {
                 if let Some(count) = counts.get_mut(place) {
@@ -139,7 +149,7 @@ impl Waiting {
         let WaitingRecord::Plain { place, value } = *self.records.get(number)? else {
             return None;
         };
-        let series = self.table.at(place)?;
+        let (series, _) = self.series.get_index(place)?;
         Some(ListedRecord {
             place,
             instrument: series.instrument,
@@ -153,7 +163,8 @@ impl Waiting {
         requires { place < length self.now.series }
         ensures { result ≡ (get_or self.now.series place (series 0 [])).instrument }
     {
-        self.table.at(place).unwrap().instrument
+        let (series, _) = self.series.get_index(place).unwrap();
+        series.instrument
     }
 
     /// Lets the first record that waits go.
@@ -175,11 +186,15 @@ impl Waiting {
         let first = *self.records.get(self.made)?;
         self.made += 1;
         match first {
-            WaitingRecord::Plain { place, value } => Some(Call::Record {
-                instrument: self.table.at(place)?.instrument,
-                value,
-                attributes: self.table.share(place)?,
-            }),
+            WaitingRecord::Plain { place, value } => {
+                let instrument = self.series.get_index(place)?.0.instrument;
+                let list = self.series.get_index_mut(place)?;
+                Some(Call::Record {
+                    instrument,
+                    value,
+                    attributes: list.share(),
+                })
+            }
             WaitingRecord::Bound { handle, value } => Some(Call::RecordBound { handle, value }),
         }
     }
@@ -232,16 +247,33 @@ impl Waiting {
 }
 
 impl Waiting {
+    /// The place of a series.
+    #[inline(always)]
+    fn find(&self, instrument: usize, attributes: &[KeyValue]) -> Option<usize>
+        ensures there { IfSome result (λ n. (n < length self.now.series) × (get_or self.now.series n (series 0 []) ≡ series instrument attributes.now)) }
+        ensures none { IfNone result (position (series_eq (series instrument attributes.now)) self.now.series ≡ None) }
+        ensures unknown { IfNone result (¬ Contains self.now.series (series instrument attributes.now)) }
+    {
+        self.series.get_index_of(&SeriesQuery {
+            instrument,
+            attributes,
+        })
+    }
+
     /// Forgets all series if there are as many as a worker knows and no record waits, and lets their memory go.
     fn forget_many(&mut self)
         ensures records { self.new.records ≡ self.old.records }
         ensures room { self.old.room ≤ self.new.room }
         ensures series { ((self.new.emptied ≡ self.old.emptied) × (self.new.series ≡ self.old.series)) ⊎ ((1000 ≤ length self.old.series) × (self.old.records ≡ []) × (self.new.emptied ≡ self.old.emptied + 1) × (self.new.series ≡ [])) }
     {
-        if self.table.len() >= MOST_SERIES && self.made == self.records.len() {
+        if self.series.len() < MOST_SERIES || self.made < self.records.len() {
+            return;
+        }
+        if let Some(emptied) = self.emptied.checked_add(1) {
+            self.emptied = emptied;
+            self.series = IndexMap::with_hasher(*self.series.allocator(), *self.series.hasher());
             self.records.clear();
             self.made = 0;
-            self.table.clear();
         }
     }
 
@@ -255,7 +287,16 @@ impl Waiting {
         ensures series { KeepsSeries self.old self.new }
     {
         self.forget_many();
-        self.table.add(instrument, attributes)
+        let place = self.series.len();
+        let (attributes, shared) = SharedAttributes::new(attributes)?;
+        let series = Series {
+            instrument,
+            attributes: OwnedSet::new(*self.series.hasher(), attributes),
+        };
+        match self.series.insert(series, shared) {
+            Ok(_) => Ok(place),
+            Err(_) => Err(Fault::OutOfMemory),
+        }
     }
 
     /// Adds a record with a list of its own.
@@ -273,7 +314,7 @@ impl Waiting {
         ensures learnt { OnOk result (Contains self.new.series (series instrument attributes.items)) }
         ensures series { KeepsSeries self.old self.new }
     {
-        match self.table.find(instrument, &attributes) {
+        match self.find(instrument, &attributes) {
             Some(place) => self.push(WaitingRecord::Plain { place, value }),
             None => {
                 let place = self.learn(instrument, attributes)?;
@@ -315,7 +356,7 @@ impl Waiting {
         ensures kept { (self.new.records ≡ self.old.records) × (self.old.room ≤ self.new.room) }
         ensures series { KeepsSeries self.old self.new }
     {
-        match self.table.find(instrument, attributes) {
+        match self.find(instrument, attributes) {
             Some(place) => Ok(place),
             None => {
                 let copied = Vec::from_clones(*self.records.allocator(), attributes)?;
@@ -329,7 +370,7 @@ impl Waiting {
     pub(crate) fn emptied(&self) -> u64
         ensures { result ≡ self.now.emptied }
     {
-        self.table.emptied()
+        self.emptied
     }
 
     /// Adds a record of the series at a place, if the worker forgot its series this many times.
@@ -348,7 +389,7 @@ impl Waiting {
         ensures room { self.old.room ≤ self.new.room + 1 }
         ensures series { (self.new.emptied ≡ self.old.emptied) × (self.new.series ≡ self.old.series) }
     {
-        if emptied != self.table.emptied() || place >= self.table.len() {
+        if emptied != self.emptied || place >= self.series.len() {
             return Err(Fault::UnknownHandle);
         }
         self.push(WaitingRecord::Plain { place, value })

@@ -9,7 +9,8 @@ use Rattle.opentelemetry_sdk.specs.pipeline.Handles.{IsHeldByFed}
 use Rattle.opentelemetry_sdk.specs.pipeline.Pipelines.{part_of}
 use Rattle.opentelemetry_sdk.specs.declared.metrics.shared.series.Series.{Series}
 use Rattle.opentelemetry_sdk.proofs.Held.{held-stands}
-use Rattle.opentelemetry_sdk.proofs.Holding.{holding-fed, holding-held, holding-other, IfSome-weaker}
+use Rattle.opentelemetry_sdk.proofs.Holding.{holding-fed, holding-held, holding-other}
+use Rattle.std.proofs.lemmas.Option.{IfSome_then}
 use Rattle.opentelemetry_sdk.proofs.metrics.shared.batch.record_listed.Goals as goal
 
 pub returns-in-Some-clause-made : goal.returns-in-Some-clause-made
@@ -24,7 +25,7 @@ returns-in-Some-clause-made c = λ ss ps at is.
     (holding-held c.args.first ss c.args.holdings.now ps (map part_of c.args.pipelines.now) is c.args.listed at (sym c.in-Some.ensures))
 
 pub returns-then-has_many-clause-made : goal.returns-then-has_many-clause-made
-returns-then-has_many-clause-made c = IfSome-weaker c.record_first.result (λ x made. made c.args.first refl) c.record_first.ensures.made
+returns-then-has_many-clause-made c = IfSome_then c.record_first.result c.record_first.ensures.made (λ x made. made c.args.first refl)
 
 pub returns-in-Ok-clause-made : goal.returns-in-Ok-clause-made
 returns-in-Ok-clause-made c = λ ss ps at is.

@@ -6,7 +6,7 @@ use Rattle.opentelemetry_sdk.specs.pipeline.Handles.{FeedsSynchronous, IsHeldByF
 use Rattle.opentelemetry_sdk.specs.pipeline.Pipelines.{part_of}
 use Rattle.opentelemetry_sdk.specs.declared.metrics.shared.series.Series.{Series}
 use Rattle.opentelemetry_sdk.proofs.Held.{unbind-stands}
-use Rattle.opentelemetry_sdk.proofs.Holding.{holding-end, holding-fed, holding-inside, holding-none, holding-synchronous}
+use Rattle.opentelemetry_sdk.proofs.Holding.{holding-end, holding-fed, holding-recorded, holding-none, holding-synchronous}
 use Rattle.opentelemetry_sdk.proofs.Marks.{last-there}
 use Rattle.opentelemetry_sdk.proofs.metrics.shared.batch.release_each.Goals as goal
 
@@ -15,15 +15,15 @@ instrument-instrument-requires c =
     let ss : List Series = c.args.waiting.now.series in
     let held : List ℕ = c.release.new.self ++ c.in-Some.series ∷ [] in
     let is = subst (λ (hs : List ℕ). IsHolding c.args.first ss hs c.requires.holding.0 (map part_of c.loop-series.pipelines)) c.in-Some.ensures.last (c.loop-series.invariant c.requires.holding.0 c.requires.holding.1) in
-    holding-inside c.args.first ss held c.requires.holding.0 (map part_of c.loop-series.pipelines) is c.in-Some.series (last-there c.release.new.self c.in-Some.series)
+    (holding-recorded c.args.first ss held c.requires.holding.0 (map part_of c.loop-series.pipelines) is c.in-Some.series (last-there c.release.new.self c.in-Some.series)).0
 
 pub overflow_add-ended : goal.overflow_add-ended
 overflow_add-ended c =
     let ss : List Series = c.args.waiting.now.series in
     let held : List ℕ = c.release.new.self ++ c.in-Some.series ∷ [] in
     let is = subst (λ (hs : List ℕ). IsHolding c.args.first ss hs c.requires.holding.0 (map part_of c.loop-series.pipelines)) c.in-Some.ensures.last (c.loop-series.invariant c.requires.holding.0 c.requires.holding.1) in
-    let inside = holding-inside c.args.first ss held c.requires.holding.0 (map part_of c.loop-series.pipelines) is c.in-Some.series (last-there c.release.new.self c.in-Some.series) in
-    omega (arith, inside, c.requires.small)
+    let inside = holding-recorded c.args.first ss held c.requires.holding.0 (map part_of c.loop-series.pipelines) is c.in-Some.series (last-there c.release.new.self c.in-Some.series) in
+    omega (arith, inside.0, c.requires.small)
 
 pub loop-series-preserved : goal.loop-series-preserved
 loop-series-preserved c = λ ps first.

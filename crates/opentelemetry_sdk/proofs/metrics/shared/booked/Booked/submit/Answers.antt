@@ -1,5 +1,5 @@
 use Rattle.std.proofs.Common.{◌∙◌, arith}
-use Rattle.opentelemetry_sdk.proofs.Submitting.{submits-on, submits-further}
+use Rattle.opentelemetry_sdk.proofs.Submitting.{submits_one, submits-further}
 use Rattle.opentelemetry_sdk.proofs.metrics.shared.booked.Booked.submit.Goals as goal
 
 -- one more record was made, and then a batch
@@ -7,13 +7,13 @@ pub loop-self-preserved : goal.loop-self-preserved
 loop-self-preserved g c =
     let so_far = c.loop-self.invariant in
     let made = c.in_ok-make_first.ensures.made c.if-branch.true in
-    let one = submits-on _ _ _ _ _ _ _ _ _ _ _ _ so_far.count_grew so_far.value_grew so_far.made made.0 made.1 in
     let first = c.make_first.ensures in
     let batch = c.make_waiting-in-loop-self.ensures in
     record {
       count_grew = omega (arith, made.1, batch.grew.0);
       value_grew = omega (arith, made.0.3, batch.grew.1);
-      made = submits-further _ _ _ _ _ _ _ _ _ _ _ _ (omega (arith, made.1)) (omega (arith, made.0.3)) batch.grew.0 batch.grew.1 one batch.made;
+      made = submits-further _ _ _ _ _ _ _ _ _ _ _ _ (omega (arith, made.1)) (omega (arith, made.0.3)) batch.grew.0 batch.grew.1
+          (submits-further _ _ _ _ _ _ _ _ _ _ _ _ so_far.count_grew so_far.value_grew (omega (arith, made.1)) (omega (arith, made.0.3)) so_far.made (submits_one _ _ _ _ _ _ made.0.0 made.0.1 made.0.2 (omega (arith, made.1)) (omega (arith, made.0.3)))) batch.made;
       records = omega (arith, first.book.0, batch.book.0);
       values = omega (arith, first.book.1, batch.book.1);
       seeded = batch.seeded ∙ first.seeded ∙ so_far.seeded;

@@ -12,8 +12,8 @@ use Rattle.opentelemetry_sdk.specs.States.{CoreContents, IsFault, IsNamed, IsSou
 use Rattle.opentelemetry_sdk.proofs.Sound.{sound-step}
 use Rattle.opentelemetry_sdk.proofs.Stepped.{refused-step, memory-result, record-takes}
 use Rattle.opentelemetry_sdk.proofs.StepLemmas.{unchanged, lent-parts, taken-feeds, taken-inside, record-made}
-use Rattle.opentelemetry_sdk.proofs.provider_core.Core.record_given.Goals.{After-accept}
-use Rattle.opentelemetry_sdk.proofs.provider_core.Core.record_given.Goals as goal
+use Rattle.opentelemetry_sdk.proofs.provider_core.Core.record.Goals.{After-accept}
+use Rattle.opentelemetry_sdk.proofs.provider_core.Core.record.Goals as goal
 
 pub returns-in-Err-clause-step : goal.returns-in-Err-clause-step
 returns-in-Err-clause-step c =
