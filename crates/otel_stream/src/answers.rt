@@ -64,52 +64,26 @@ fn place_of(kind: InstrumentKind) -> usize
     }
 }
 
-/// The number of a limit, if there is one.
-fn number_of(limit: Option<CardinalityLimit>) -> Option<usize>
-    ensures { result ≡ limit }
-{
-    match limit {
-        Some(limit) => Some(limit.get()),
-        None => None,
-    }
-}
-
-/// A copy of an aggregation, if there is one. Takes memory for the bounds of a histogram.
-fn copy_of(aggregation: Option<&Aggregation>) -> Result<Option<Aggregation>, Fault>
-    ensures copy { IfOk result (λ copy. copy ≡ option_copied aggregation.entry) }
-    ensures only_memory { IsOkUnless result Fault.OutOfMemory }
-{
-    copied_aggregation();
-    match aggregation {
-        Some(aggregation) => Ok(Some(aggregation.clone()?)),
-        None => Ok(None),
-    }
-}
-
 /// Asks a reader for its answer for one kind. Takes memory for the bounds of a histogram.
 fn ask<R: MetricReader>(reader: &R, kind: InstrumentKind) -> Result<Answer, Fault>
     ensures answer { IfOk result (λ a. a ≡ answer_wanting (R.preference reader.now) (R.limit reader.now) (R.aggregation reader.now) kind) }
     ensures only_memory { IsOkUnless result Fault.OutOfMemory }
 {
+    copied_aggregation();
     let temporality = reader.temporality(kind);
-    let limit = number_of(reader.cardinality_limit(kind));
-    let aggregation = copy_of(reader.default_aggregation(kind))?;
+    let limit = match reader.cardinality_limit(kind) {
+        Some(limit) => Some(limit.get()),
+        None => None,
+    };
+    let aggregation = match reader.default_aggregation(kind) {
+        Some(aggregation) => Some(aggregation.clone()?),
+        None => None,
+    };
     Ok(Answer {
         temporality,
         limit,
         aggregation,
     })
-}
-
-/// Asks a reader for its answer for each kind, in order, and adds the answers.
-fn ask_each<R: MetricReader>(answers: &mut Vec<Answer>, reader: &R) -> Result<(), Fault>
-    ensures answers { OnOk result (answers.new.items ≡ answers.old.items ++ answers_wanting (R.preference reader.now) (R.limit reader.now) (R.aggregation reader.now)) }
-    ensures only_memory { IsOkUnless result Fault.OutOfMemory }
-{
-    for kind in &KINDS {
-        answers.push(ask(reader, *kind)?)?;
-    }
-    Ok(())
 }
 
 impl Answers {
@@ -121,7 +95,9 @@ impl Answers {
         ensures only_memory { IsOkUnless result Fault.OutOfMemory }
     {
         let mut answers = Vec::with_capacity(alloc, KINDS.len())?;
-        ask_each(&mut answers, reader)?;
+        for kind in &KINDS {
+            answers.push(ask(reader, *kind)?)?;
+        }
         Ok(Answers {
             items: Items::from(answers),
         })
