@@ -13,10 +13,8 @@ use Rattle.otel_model.specs.State.{State}
 use Rattle.otel_model.specs.Steps.{Step, answer_of, after, after_by, reply_by, asks_readers}
 use Rattle.otel_model.specs.Steps as steps
 use Rattle.otel_stream.specs.Requests.{Outcome, AllAsked, outcome_of, outcome_by, failures, first_failure}
-use Rattle.opentelemetry_sdk.specs.Correspondence.{reply_of, reply_to}
+use Rattle.opentelemetry_sdk.specs.Correspondence.{reply_to}
 use Rattle.opentelemetry_sdk.specs.Readers.{AreReached, StepReaches, RunReaches, shut_after}
-use Rattle.opentelemetry_sdk.specs.declared.calls.Call.{Call}
-use Rattle.opentelemetry_sdk.specs.declared.calls.Reply.{Reply}
 
 -- ======== a flush or a shutdown is a call of the machine ========
 by-outcome : (views : Views) (old new : State) (call : model.Call) (failed : ℕ) (first : Option ℕ) → IsTrue (asks_readers call) → refusal old.shared (length old.readers) call ≡ None
