@@ -13,7 +13,7 @@ use Rattle.otel_model.specs.State.{State}
 use Rattle.otel_model.specs.Steps.{Step, answer_of, after, after_by, reply_by, asks_readers}
 use Rattle.otel_model.specs.Steps as steps
 use Rattle.otel_stream.specs.Requests.{Outcome, AllAsked, outcome_of, outcome_by, failures, first_failure}
-use Rattle.opentelemetry_sdk.specs.Correspondence.{reply_of, reply_to}
+use Rattle.opentelemetry_sdk.specs.Correspondence.{reply_to}
 use Rattle.opentelemetry_sdk.specs.Readers.{AreReached, StepReaches, RunReaches, shut_after}
 
 -- ======== a flush or a shutdown is a call of the machine ========

@@ -1,6 +1,6 @@
 //! What a collection gives for one reader's streams.
 
-ghost use Rattle.std.specs.Prelude.{◌≡◌, ◌++◌, [], ◌∷◌, true, false, None, Some, map, filter, length, replicate, slice_get, OnOk, IfOk, IfSome, IsOkUnless};
+ghost use Rattle.std.specs.Prelude.{◌≡◌, ◌++◌, [], ◌∷◌, true, false, None, Some, map, filter, length, slice_get, OnOk, IfOk, IfSome, IsOkUnless};
 ghost use Rattle.std.specs.List.{IsDistinct, list_any};
 ghost use Rattle.otel_common.specs.Scopes.{scope_eq};
 ghost use Rattle.otel_model.specs.Collections.{has_metrics};

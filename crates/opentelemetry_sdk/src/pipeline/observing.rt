@@ -1,6 +1,6 @@
 //! How a collection takes in what was observed: into drafts of streams, which are then exchanged.
 
-ghost use Rattle.std.specs.Prelude.{◌≡◌, None, All, replicate, IfOk, OnOk, OnErr, IsOkUnless};
+ghost use Rattle.std.specs.Prelude.{◌≡◌, None, All, IfOk, OnOk, OnErr, IsOkUnless};
 ghost use Rattle.opentelemetry_sdk.specs.pipeline.Collections.{scopes_shown};
 ghost use Rattle.opentelemetry_sdk.specs.pipeline.Observations.{AreDraftsOf, AreObservableIn, drafted_all, observed_all};
 ghost use Rattle.opentelemetry_sdk.specs.pipeline.Pipelines.{AreNumbers, all_without_pending, all_after_collection};

@@ -1,6 +1,6 @@
 //! What views answer about an instrument.
 
-ghost use Rattle.std.specs.Prelude.{◌≡◌, map, IfOk, IsOkUnless};
+ghost use Rattle.std.specs.Prelude.{map, IfOk, IsOkUnless};
 ghost use Rattle.std.specs.Option.{option_map};
 ghost use Rattle.opentelemetry_sdk.specs.States.{AreAsked};
 

@@ -3,7 +3,7 @@
 ghost use Rattle.std.specs.Prelude.{◌≡◌, cond, not, Some, None};
 ghost use Rattle.std.specs.List.{list_any};
 ghost use Rattle.std.specs.Option.{option_map};
-ghost use Rattle.otel_model.specs.Checks.{name_fault, name_fault_text, optional_unit_fault, unit_fault_text, starts_badly, is_name_byte, bounds_fault_text};
+ghost use Rattle.otel_model.specs.Checks.{name_fault, name_fault_text, optional_unit_fault, unit_fault_text, is_name_byte, bounds_fault_text};
 ghost use Rattle.otel_model_stream.specs.Data.{rises};
 ghost use Rattle.opentelemetry_sdk.specs.Correspondence.{IsAnswer};
 
