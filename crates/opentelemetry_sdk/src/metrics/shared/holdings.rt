@@ -14,6 +14,7 @@ use std::marker::Model;
 const MANY: usize = 12;
 
 /// How many records of each series are to be made, and for which of them a handle is held.
+#[derive(Drop)]
 pub(crate) struct Holdings {
     /// How many records of each series are to be made, by the series' places.
     counts: Vec<u32>,
@@ -33,17 +34,6 @@ impl Model for Holdings {
     ghost view = { λ h. h.held.items };
 
     ghost invariant = { λ h. AreMarked h.places.items h.held.items × AreFedOnce h.held.items };
-}
-
-impl Drop for Holdings {
-    /// A function of its own, so that no proof about who lets one go looks into it.
-    fn drop(self) {
-        let Holdings {
-            counts: _counts,
-            places: _places,
-            held: _held,
-        } = self;
-    }
 }
 
 impl Holdings {
