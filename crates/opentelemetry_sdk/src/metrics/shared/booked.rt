@@ -140,9 +140,7 @@ fn enter_each<C: Account, S: Account>(
     ensures series { StaysListed (waits_of worker.old) (waits_of worker.new) }
 {
     for _ in 0..made {
-        let waiting = &mut worker.waiting;
-        let value = waiting.first().unwrap().bits();
-        waiting.pass_first();
+        let value = worker.waiting.pass_first();
         enter(records, values, worker, value);
     }
 }
@@ -308,9 +306,8 @@ impl<C: Account, S: Account> Booked<C, S> {
         if let Err(fault) = make(&mut self.core, &first) {
             return Err(fault);
         }
-        let value = first.bits();
         drop(first);
-        worker.waiting.pass_first();
+        let value = worker.waiting.pass_first();
         enter(&mut self.records, &mut self.values, worker, value);
         self.accepted += 1;
         Ok(true)

@@ -1,8 +1,9 @@
 //! Records that wait to be made.
 
-ghost use Rattle.std.specs.Prelude.{◌≡◌};
+ghost use Rattle.std.specs.Prelude.{◌≡◌, List};
 ghost use Rattle.opentelemetry_sdk.specs.Pending.{bits_in};
-ghost use Rattle.opentelemetry_sdk.specs.Waiting.{lent_record};
+ghost use Rattle.opentelemetry_sdk.specs.Waiting.{lent_record, record_in};
+ghost use Rattle.opentelemetry_sdk.specs.declared.metrics.shared.series.Series.{Series};
 
 use crate::calls::record_attributes::RecordAttributes;
 use otel_aggregate::value_map::hashed_key::{GivenAttributes, OwnedSet};
@@ -62,6 +63,15 @@ pub(crate) enum WaitingRecord {
 }
 
 impl WaitingRecord {
+    /// The 64 bits of the value.
+    pub(crate) fn bits(self) -> u64
+        ensures { (ss : List Series) → result ≡ bits_in (record_in ss self) }
+    {
+        match self {
+            WaitingRecord::Plain { value, .. } | WaitingRecord::Bound { value, .. } => bits_of(value),
+        }
+    }
+
     /// Whether it is through a handle.
     pub(crate) fn is_bound(self) -> bool {
         matches!(self, WaitingRecord::Bound { .. })

@@ -2,7 +2,7 @@
 
 ghost use Rattle.std.specs.Prelude.{◌≡◌, ◌≤◌, ◌<◌, ◌+◌, ◌++◌, ◌∷◌, ◌⊎◌, [], ℕ, Contains, Err, slice_get, None, Some, IsSome, IsOk, IfOk, OnOk, OnErr, IfSome, IfNone, get_or, IsOkUnless, drop, length, map, position};
 ghost use Rattle.opentelemetry_sdk.specs.Correspondence.{call_of};
-ghost use Rattle.opentelemetry_sdk.specs.Pending.{call_in};
+ghost use Rattle.opentelemetry_sdk.specs.Pending.{bits_in, call_in};
 ghost use Rattle.opentelemetry_sdk.specs.Series.{series, series_eq};
 ghost use Rattle.opentelemetry_sdk.specs.Waiting.{HasSeries, KeepsSeries, lent_record, record_in, series_placed};
 
@@ -167,13 +167,16 @@ impl Waiting {
         series.instrument
     }
 
-    /// Lets the first record that waits go.
-    pub(crate) fn pass_first(&mut self)
+    /// Lets the first record that waits go, and returns the 64 bits of its value.
+    #[inline(always)]
+    pub(crate) fn pass_first(&mut self) -> u64
         requires { 0 < length self.old.records }
-        ensures records { self.new.records ≡ drop 1 self.old.records }
+        ensures first { (p : PendingRecord) × (self.old.records ≡ p ∷ self.new.records) × (result ≡ bits_in p) }
         ensures kept { (self.new.emptied ≡ self.old.emptied) × (self.new.series ≡ self.old.series) × (self.new.room ≡ self.old.room) }
     {
+        let first = self.records[self.made];
         self.made += 1;
+        first.bits()
     }
 
     /// Takes the first record that waits, as the call that makes it. Takes no memory.
