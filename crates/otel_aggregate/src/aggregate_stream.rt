@@ -32,24 +32,6 @@ use std::mem::swap;
 
 pub mod shown;
 
-/// Whether a stream resets at each collection, given its reader's answer.
-fn is_delta(temporality: Temporality) -> bool
-    ensures { result ≡ resets temporality }
-{
-    matches!(temporality, Temporality::Delta)
-}
-
-/// The allow-list of these keys, if there are any.
-fn allow_list(alloc: Global, keys: Option<Items<Key>>) -> Result<Option<AllowedKeys>, Fault>
-    ensures keys { IfOk result (λ allow. allow ≡ keys) }
-    ensures only_memory { IsOkUnless result Fault.OutOfMemory }
-{
-    match keys {
-        None => Ok(None),
-        Some(keys) => Ok(Some(AllowedKeys::new(alloc, keys)?)),
-    }
-}
-
 /// A map for what was reported, if each collection empties a stream with these settings.
 #[inline(never)]
 fn reported_map(
@@ -172,7 +154,10 @@ impl AggregateStream {
         ensures only_memory { IsOkUnless result Fault.OutOfMemory }
     {
         let reported = reported_map(alloc, hasher, &settings, limit)?;
-        let allow = allow_list(alloc, allow)?;
+        let allow = match allow {
+            Some(keys) => Some(AllowedKeys::new(alloc, keys)?),
+            None => None,
+        };
         let map = ValueMap::new(alloc, hasher, settings.config(), limit)?;
         Ok(AggregateStream {
             settings,
@@ -182,7 +167,7 @@ impl AggregateStream {
             live: Links::new(alloc, hasher),
             room: false,
             allow,
-            resets: is_delta(temporality),
+            resets: matches!(temporality, Temporality::Delta),
             start,
         })
     }

@@ -10,5 +10,5 @@ invariant_of-result c = (
   search rules,
   search rules,
   stream-new c.args.is_signed c.args.settings c.in_ok-map.map.state (empty_for c.config.result) c.args.limit c.config.ensures c.in_ok-map.ensures.made,
-  reported-new c.args.settings c.in_ok-map.map.state (empty_for c.config.result) c.new-2.result.entries c.args.limit (state_of c.in_ok-reported.reported) c.in_ok-reported.ensures.made c.config.ensures c.in_ok-map.ensures.made c.new-2.ensures,
+  reported-new c.args.settings c.in_ok-map.map.state (empty_for c.config.result) c.new-3.result.entries c.args.limit (state_of c.in_ok-reported.reported) c.in_ok-reported.ensures.made c.config.ensures c.in_ok-map.ensures.made c.new-3.ensures,
 )
