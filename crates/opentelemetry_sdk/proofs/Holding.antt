@@ -22,10 +22,9 @@ use Rattle.opentelemetry_sdk.specs.Batches.{temporary, temporaries, IsRecorded, 
 use Rattle.opentelemetry_sdk.specs.Pending.{call_in}
 use Rattle.opentelemetry_sdk.specs.declared.metrics.shared.pending.PendingRecord.{PendingRecord}
 use Rattle.opentelemetry_sdk.proofs.Marks.{once-less}
-use Rattle.opentelemetry_sdk.proofs.StepLemmas.{get-inside}
 use Rattle.opentelemetry_sdk.proofs.Submitting.{done-all}
 use Rattle.opentelemetry_sdk.proofs.pipeline.Once.{once-push}
-use Rattle.std.proofs.lemmas.Option.{get_or_from_slice_get}
+use Rattle.std.proofs.lemmas.Option.{get_or_from_slice_get, slice_get_within}
 use Rattle.std.proofs.Math.Seq.{take-suc}
 use Rattle.opentelemetry_sdk.specs.Correspondence.{number_of}
 use Rattle.opentelemetry_sdk.specs.Series.{series}
@@ -254,6 +253,6 @@ made-more calls call first ss held held' old qs qs' is is' so_far next =
 -- the next one of the records
 pub next-taken : (ps : List PendingRecord) (n : ℕ) (p : PendingRecord) → slice_get ps n ≡ Some p → (n < length ps) × (map call_in (take (n + 1) ps) ≡ map call_in (take n ps) ++ call_in p ∷ [])
 next-taken ps n p at =
-    let lt : n < length ps = get-inside ps n p at in
+    let lt : n < length ps = slice_get_within ps n p at in
     let is : get_or ps n p ≡ p = get_or_from_slice_get ps n p p at in
     (lt, rw add-one (ap (map call_in) (take-suc ps n p lt ∙ ap (λ q. take n ps ++ q ∷ []) is) ∙ map-append call_in (take n ps) (p ∷ [])))

@@ -82,9 +82,6 @@ lent_as P n old lent new zs e is done = subst (P old) (sym (lent_back n new zs e
 pub lent-parts : (n : ℕ) (ys zs : List Piped) (ps : List ReaderPart) → n ≡ length ys → map part_of ys ≡ ps → map part_of (take n (ys ++ zs)) ≡ ps
 lent-parts n ys zs ps e is = ap (map part_of) (lent_back n ys zs e) ∙ is
 
-pub get-inside : {X : Type 0} (xs : List X) (n : ℕ) (x : X) → slice_get xs n ≡ Some x → n < length xs
-get-inside xs n x e = slice_get_within xs n x e
-
 -- what was lent unchanged leaves the state unchanged
 pub unchanged : (old : State) (live : List LiveHandle) (n : ℕ) (lent new zs : List Piped) → n ≡ length new → live ≡ old.shared.live → map part_of lent ≡ old.readers → map part_of new ≡ map part_of lent
     → record { shared = record old.shared { live = live }; readers = map part_of (take n (new ++ zs)) } ≡ old

@@ -16,6 +16,7 @@ use std::alloc::Global;
 
 /// Which names are selected. Names are compared byte by byte.
 #[derive(Debug)]
+#[derive(Drop)]
 pub enum NameCriterion {
     /// This name; here `*` and `?` stand for themselves.
     Exact(StringValue),
@@ -24,17 +25,6 @@ pub enum NameCriterion {
     /// The names that fit this pattern as a whole: `*` stands for any text, the empty one too, `?` for exactly one byte,
     /// and each other byte for itself.
     Pattern(StringValue),
-}
-
-impl Drop for NameCriterion {
-    /// A function of its own, so that no proof about who lets one go looks into it.
-    fn drop(self) {
-        match self {
-            NameCriterion::Exact(_name) => {}
-            NameCriterion::Prefix(_prefix) => {}
-            NameCriterion::Pattern(_pattern) => {}
-        }
-    }
 }
 
 impl NameCriterion {
@@ -230,21 +220,12 @@ fn is_wanted(wanted: &Option<StringValue>, text: Option<&str>) -> bool
 
 /// A view that gives all instruments that it selects the same settings of a stream (Metrics SDK, "View"). A match takes
 /// memory for a copy of the settings.
+#[derive(Drop)]
 pub struct SelectorView {
     /// The instruments that the view is for.
     pub selector: InstrumentSelector,
     /// The settings of their streams.
     pub stream: Stream,
-}
-
-impl Drop for SelectorView {
-    /// A function of its own, so that no proof about who lets one go looks into it.
-    fn drop(self) {
-        let SelectorView {
-            selector: _selector,
-            stream: _stream,
-        } = self;
-    }
 }
 
 impl SelectorView {

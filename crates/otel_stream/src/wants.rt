@@ -9,21 +9,11 @@ use otel_common::metrics::{Aggregation, Temporality};
 
 /// What a manual reader wants: a temporality, and for each kind of instrument optionally a limit and optionally an
 /// aggregation.
+#[derive(Drop)]
 pub(crate) struct Wants {
     pub(crate) temporality: Temporality,
     pub(crate) limits: ByKind<Option<CardinalityLimit>>,
     pub(crate) aggregations: ByKind<Option<Aggregation>>,
-}
-
-impl Drop for Wants {
-    /// A function of its own, so that no proof about who lets one go looks into it.
-    fn drop(self) {
-        let Wants {
-            temporality: _,
-            limits: _limits,
-            aggregations: _aggregations,
-        } = self;
-    }
 }
 
 impl Wants {

@@ -18,6 +18,7 @@ use Rattle.otel_model.specs.Machine.{stream_after, part_after_call, if_held}
 use Rattle.otel_model.specs.Sent.{is_fed, set_for}
 use Rattle.otel_model.specs.State.{Stream}
 use Rattle.otel_model.specs.Streams.{aggregate_of, is_drained, observes_sums}
+use Rattle.otel_model.proofs.Single.{some_is}
 use Rattle.opentelemetry_sdk.specs.declared.pipeline.change.Change.{Change}
 use Rattle.opentelemetry_sdk.specs.declared.pipeline.change.Change.TheVariants as change
 use Rattle.opentelemetry_sdk.specs.pipeline.Handles.{FeedsSynchronous, AreObservableFor, IsNewAt, IsHeldByFed, StandsFor}
@@ -25,7 +26,7 @@ use Rattle.opentelemetry_sdk.specs.pipeline.Observations.{AreObservableIn}
 use Rattle.opentelemetry_sdk.specs.pipeline.Pipelines.{Piped, IsLawful, IsReady, IsReadyFor, IsReadyIfThere, FeedsType, identity_of, is_streamed, model_streams, named_identities, number_of, part_of, part_changed_by, fed_by}
 use Rattle.opentelemetry_sdk.specs.pipeline.Streams.{StreamContents, used_for, with_event, bound_by, contents_after}
 use Rattle.opentelemetry_sdk.proofs.pipeline.Answered.{changes}
-use Rattle.opentelemetry_sdk.proofs.pipeline.Records.{each-sent, fed-at, fits, none-sent, recorded-sent, some_same, there-at, typed-fits}
+use Rattle.opentelemetry_sdk.proofs.pipeline.Records.{each-sent, fed-at, fits, none-sent, recorded-sent, there-at, typed-fits}
 
 -- ======== kinds ========
 drained-by : (kind : InstrumentKind) → is_observable kind ≡ false → observes_sums kind ≡ false
@@ -60,7 +61,7 @@ of-first P m ks all e = (rw e at all).0
 pub of-streamed : (P : Stream → Type 0) (ks : List StreamContents) → EachOf P (model_streams ks) → (i : ℕ) (k : StreamContents) → slice_get ks i ≡ Some k → is_streamed k ≡ true → P k.stream
 of-streamed P [] all i k at s = absurd (cc)
 of-streamed P (m ∷ ks) all zero k at s =
-    let same : m ≡ k = some_same m k at in
+    let same : m ≡ k = some_is m k at in
     subst (λ (x : StreamContents). P x.stream) same (of-first P m ks all (ap is_streamed same ∙ s))
 of-streamed P (m ∷ ks) all (suc i) k at s = of-streamed P ks (of-rest P m ks all) i k at s
 

@@ -6,11 +6,12 @@ use Rattle.std.proofs.lemmas.Bool.{and_parts}
 use Rattle.std.proofs.lemmas.Option.{slice_get-map, slice_get_read}
 use Rattle.otel_common.specs.declared.attributes.KeyValue.{KeyValue}
 use Rattle.otel_model.specs.Demands.{Identity, identity_eq}
+use Rattle.otel_model.proofs.Single.{some_is}
 use Rattle.opentelemetry_sdk.specs.pipeline.Known.{is_known_to, is_known_by, is_known_at, IsKnownIfThere}
 use Rattle.opentelemetry_sdk.specs.pipeline.Pipelines.{IsLawful, Piped, all_without_pending, fed_by, identity_of, is_streamed, model_streams, named_identities, part_of}
 use Rattle.opentelemetry_sdk.specs.pipeline.Streams.{StreamContents, without_pending}
 use Rattle.opentelemetry_sdk.proofs.pipeline.Identities.{AreApart, are_apart}
-use Rattle.opentelemetry_sdk.proofs.pipeline.Records.{HaveStreams, fed-named, fed-numbers, identity_at-is, numbers-named, some_same}
+use Rattle.opentelemetry_sdk.proofs.pipeline.Records.{HaveStreams, fed-named, fed-numbers, identity_at-is, numbers-named}
 
 either : (a b : Bool) → (a || b) ≡ true → (a ≡ true) ⊎ (b ≡ true)
 either true b e = inl refl
@@ -38,7 +39,7 @@ find l x (k ∷ ks) e = by (is_streamed k) e (λ q. later (find l x ks q))
 known-of : (l : List KeyValue) (ks : List StreamContents) → AreApart ks → (n : ℕ) (m : StreamContents) → slice_get ks n ≡ Some m → is_known_by l (model_streams ks) (identity_of m) ≡ true → is_known_to l m.stream ≡ true
 known-of l ks apart n m at e =
     let f : Found l (identity_of m) ks = find l (identity_of m) ks e in
-    let same : f.1 ≡ m = some_same f.1 m (sym f.2 ∙ (ap (slice_get ks) (apart f.0 n f.1 m f.2 at f.3) ∙ at)) in
+    let same : f.1 ≡ m = some_is f.1 m (sym f.2 ∙ (ap (slice_get ks) (apart f.0 n f.1 m f.2 at f.3) ∙ at)) in
     subst (λ (k : StreamContents). is_known_to l k.stream ≡ true) same f.4
 
 -- if each identity that is named is known, so is each stream of these numbers

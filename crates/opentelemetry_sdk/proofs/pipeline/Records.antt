@@ -23,6 +23,7 @@ use Rattle.otel_model.specs.Sent.{is_fed, set_for}
 use Rattle.otel_model.specs.State.{ReaderPart, Stream}
 use Rattle.otel_model.specs.Streams.{aggregate_of}
 use Rattle.otel_model.proofs.Gather.{identity_eq_self}
+use Rattle.otel_model.proofs.Single.{some_is}
 use Rattle.opentelemetry_sdk.specs.pipeline.Pipelines.{fates_of, named_identities, identity_at, identity_of, is_streamed, model_streams, part_of, Piped, AreNumbers, IsLawful, IsReadyFor, IsReadyIfThere, changed_each, fed_by, number_of, part_changed_by, FeedsType}
 use Rattle.opentelemetry_sdk.specs.declared.pipeline.change.Change.TheVariants as change
 use Rattle.opentelemetry_sdk.specs.pipeline.Streams.{StreamContents, used_for, with_record, contents_after, contents_after_record, committed_by}
@@ -37,9 +38,6 @@ use Rattle.opentelemetry_sdk.proofs.pipeline.PipelineLemmas.{fates-changed, feed
 abbrev pub HaveStreams : List ℕ → List StreamContents → Type 0
 HaveStreams [] ks = Unit {0}
 HaveStreams (n ∷ ns) ks = ((k : StreamContents) × (slice_get ks n ≡ Some k)) × HaveStreams ns ks
-
-pub some_same : (a b : StreamContents) → Some a ≡ Some b → a ≡ b
-some_same a b e = cc
 
 pub identity_at-is : (ks : List StreamContents) (n : ℕ) (k : StreamContents) → slice_get ks n ≡ Some k → identity_at ks n ≡ identity_of k ∷ []
 identity_at-is ks n k e = rw e refl
@@ -56,7 +54,7 @@ named-has ks apart (n ∷ ns) all i k e =
     same : model.identity_eq (identity_of (all.0.0)) (identity_of k) ≡ (n == i)
     same = ⊎_elim
         (λ t. t ∙ sym (eq-eqb n i (apart n i all.0.0 k all.0.1 e t)))
-        (λ f. f ∙ sym (ne_eqb n i (λ q. true≢false (sym (ap (λ (m : StreamContents). model.identity_eq (identity_of m) (identity_of k)) (some_same _ _ (sym (all.0.1) ∙ ap (slice_get ks) q ∙ e)) ∙ identity_eq_self (identity_of k)) ∙ f))))
+        (λ f. f ∙ sym (ne_eqb n i (λ q. true≢false (sym (ap (λ (m : StreamContents). model.identity_eq (identity_of m) (identity_of k)) (some_is _ _ (sym (all.0.1) ∙ ap (slice_get ks) q ∙ e)) ∙ identity_eq_self (identity_of k)) ∙ f))))
         (cases_Bool (model.identity_eq (identity_of (all.0.0)) (identity_of k)))
 
 pub fed-named : (ks : List StreamContents) (feeds : List (List ℕ)) (n : ℕ) → or_else (slice_get (map (named_identities ks) feeds) n) [] ≡ named_identities ks (or_else (slice_get feeds n) [])

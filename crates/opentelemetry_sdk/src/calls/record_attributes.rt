@@ -87,6 +87,7 @@ impl Clone for RecordAttributes {
 }
 
 /// A list that can be shared out without memory.
+#[derive(Drop)]
 pub(crate) enum SharedAttributes {
     /// A list without attributes.
     Empty,
@@ -94,17 +95,6 @@ pub(crate) enum SharedAttributes {
     Counted(Box<SharedItems<KeyValue>>),
     /// A list that is never freed, since it has had as many owners as are counted.
     Lasting(&'static SharedItems<KeyValue>),
-}
-
-impl Drop for SharedAttributes {
-    /// A function of its own, so that no proof about who lets one go looks into it.
-    fn drop(self) {
-        match self {
-            SharedAttributes::Empty => {}
-            SharedAttributes::Counted(_items) => {}
-            SharedAttributes::Lasting(_items) => {}
-        }
-    }
 }
 
 impl SharedAttributes {

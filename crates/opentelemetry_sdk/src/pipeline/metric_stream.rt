@@ -30,6 +30,7 @@ use std::marker::Model;
 use std::mem::swap;
 
 /// A stream: what was demanded, and the records so far.
+#[derive(Drop)]
 pub(crate) struct MetricStream {
     demand: Demand,
     aggregate: AggregateStream,
@@ -47,18 +48,6 @@ impl Model for MetricStream {
     ghost view = { λ s. contents_of s.demand s.aggregate s.recorded s.exported };
 
     ghost invariant = { λ s. IsAsked s.demand s.aggregate };
-}
-
-impl Drop for MetricStream {
-    /// A function of its own, so that no proof about who lets one go looks into it.
-    fn drop(self) {
-        let MetricStream {
-            demand: _demand,
-            aggregate: _aggregate,
-            recorded: _,
-            exported: _,
-        } = self;
-    }
 }
 
 /// Whether a metric has points.

@@ -68,7 +68,9 @@ impl WaitingRecord {
         ensures { (ss : List Series) → result ≡ bits_in (record_in ss self) }
     {
         match self {
-            WaitingRecord::Plain { value, .. } | WaitingRecord::Bound { value, .. } => bits_of(value),
+            WaitingRecord::Plain { value, .. } | WaitingRecord::Bound { value, .. } => bits_of(
+                value,
+            ),
         }
     }
 

@@ -13,19 +13,10 @@ use std::marker::Model;
 
 /// What records have in common that differ in their values alone: an instrument, and a list of attributes as given, with
 /// the hash by which streams look it up.
+#[derive(Drop)]
 pub struct Series {
     pub(crate) instrument: usize,
     pub(crate) attributes: OwnedSet,
-}
-
-impl Drop for Series {
-    /// A function of its own, so that no proof about who lets one go looks into it.
-    fn drop(self) {
-        let Series {
-            instrument: _,
-            attributes: _attributes,
-        } = self;
-    }
 }
 
 impl PartialEq for Series {

@@ -24,6 +24,7 @@ use std::marker::Model;
 pub const MOST_SERIES: usize = 1000;
 
 /// The series that a worker knows, and the records that wait.
+#[derive(Drop)]
 pub(crate) struct Waiting {
     /// How often all series were let go. A place names one series as long as that stays the same.
     emptied: u64,
@@ -53,18 +54,6 @@ impl Model for Waiting {
     } };
 
     ghost invariant = { λ w. (w.made ≤ length w.records.items) × AllByRecursion (HasSeries (length (keys w.series))) w.records.items × AllByRecursion IsListOf w.series.entries };
-}
-
-impl Drop for Waiting {
-    /// A function of its own, so that no proof about who lets one go looks into it.
-    fn drop(self) {
-        let Waiting {
-            emptied: _,
-            series: _series,
-            records: _records,
-            made: _,
-        } = self;
-    }
 }
 
 impl Waiting {

@@ -4,7 +4,7 @@ use Rattle.otel_model.specs.Calls.{or_else}
 use Rattle.opentelemetry_sdk.specs.pipeline.Known.{IsKnownIfThere}
 use Rattle.opentelemetry_sdk.specs.pipeline.Pipelines.{IsLawful, Piped, all_without_pending, AreReady}
 use Rattle.opentelemetry_sdk.proofs.pipeline.Known.{known-at}
-use Rattle.opentelemetry_sdk.proofs.pipeline.Outcomes.{OnOk-weaker}
+use Rattle.std.proofs.lemmas.Result.{on_ok_weaker}
 use Rattle.opentelemetry_sdk.proofs.pipeline.PipelineLemmas.{settled-part, sound-settled}
 use Rattle.opentelemetry_sdk.proofs.pipeline.Pipeline.prepare.Goals as goal
 
@@ -13,7 +13,7 @@ invariant_of-self c = sound-settled c.self.inside.answers c.self.inside.identiti
 
 pub returns-clause-ready : goal.returns-clause-ready
 returns-clause-ready c =
-    OnOk-weaker c.prepare_each.result (subst (AreReady c.args.binds c.args.attributes.now c.prepare_each.new.streams.items) (c.streams_fed.ensures ∙ ap (λ f. or_else (slice_get f c.args.instrument) []) c.deref.ensures.value)) c.prepare_each.ensures.ready
+    on_ok_weaker c.prepare_each.result (subst (AreReady c.args.binds c.args.attributes.now c.prepare_each.new.streams.items) (c.streams_fed.ensures ∙ ap (λ f. or_else (slice_get f c.args.instrument) []) c.deref.ensures.value)) c.prepare_each.ensures.ready
 
 -- the model does not see which streams are ready
 pub returns-clause-same : goal.returns-clause-same

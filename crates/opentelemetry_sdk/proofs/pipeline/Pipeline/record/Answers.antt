@@ -6,7 +6,7 @@ use Rattle.opentelemetry_sdk.specs.pipeline.Pipelines.{IsLawful, AreNumbers, Pip
 use Rattle.opentelemetry_sdk.specs.pipeline.Streams.{StreamContents, contents_after_record, without_pending}
 use Rattle.opentelemetry_sdk.proofs.pipeline.Answered.{answer_of, records-either}
 use Rattle.opentelemetry_sdk.proofs.pipeline.Known.{known-alone, known-at}
-use Rattle.opentelemetry_sdk.proofs.pipeline.Outcomes.{OnErr-weaker, OnOk-weaker}
+use Rattle.std.proofs.lemmas.Result.{on_err_weaker, on_ok_weaker}
 use Rattle.opentelemetry_sdk.proofs.pipeline.PipelineLemmas.{changed-part, settled-part, sound-same}
 use Rattle.opentelemetry_sdk.proofs.pipeline.Records.{fed-numbers, taken-sent}
 use Rattle.opentelemetry_sdk.proofs.pipeline.Writes.{changed-alone, seen_same}
@@ -29,7 +29,7 @@ returns-then-feeds-eq1-clause-ok c =
     let x : StreamContents = c.index_mut.result.now in
     let f : StreamContents → StreamContents = contents_after_record c.args.value c.args.attributes.now in
     let all : AreNumbers p.streams ns = subst (AreNumbers p.streams) (sym (c.streams_fed-feeds.ensures ∙ ap (λ g. or_else (slice_get g c.args.instrument) []) c.deref.ensures.value)) (fed-numbers p.streams p.feeds c.args.instrument lawful.numbers) in
-    OnOk-weaker c.record.result (λ is. rw (← c.self.view_is) (changed-part p c.args.instrument f c.deref.result.now ns (set p.streams (get_or ns 0 0) c.record.new.self) c.deref.ensures.value c.streams_fed-feeds.ensures
+    on_ok_weaker c.record.result (λ is. rw (← c.self.view_is) (changed-part p c.args.instrument f c.deref.result.now ns (set p.streams (get_or ns 0 0) c.record.new.self) c.deref.ensures.value c.streams_fed-feeds.ensures
     (changed-alone f ns p.streams x c.record.new.self c.if-feeds-eq1.true all c.index_mut.ensures.value is)
     ∙ taken-sent c.args.instrument c.args.value c.args.attributes.now p lawful (rw (← c.self.view_is) at c.requires))) c.record.ensures.ok
 
@@ -38,7 +38,7 @@ returns-then-feeds-eq1-clause-err c =
     let old : List StreamContents = c.self.inside.streams.items in
     let k : ℕ = get_or c.streams_fed-feeds.result.now 0 0 in
     let x : StreamContents = c.index_mut.result.now in
-    OnErr-weaker c.record.result (λ same. rw (← c.self.view_is) (settled-part c.self.inside.answers (set old k c.record.new.self) old c.self.inside.feeds.items (seen_same without_pending old k x x c.record.new.self c.index_mut.ensures.value same))) c.record.ensures.err
+    on_err_weaker c.record.result (λ same. rw (← c.self.view_is) (settled-part c.self.inside.answers (set old k c.record.new.self) old c.self.inside.feeds.items (seen_same without_pending old k x x c.record.new.self c.index_mut.ensures.value same))) c.record.ensures.err
 
 -- the number that the instrument feeds is that of a stream whose identity it feeds
 pub returns-then-feeds-eq1-clause-known : goal.returns-then-feeds-eq1-clause-known

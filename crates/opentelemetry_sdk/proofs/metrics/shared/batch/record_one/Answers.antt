@@ -1,4 +1,5 @@
 use Rattle.std.proofs.Common.{◌≡◌, ◌∙◌, ◌<◌, [], ℕ, List, map, length, set, slice_get, None, sym, ap, arith, refl}
+use Rattle.std.proofs.lemmas.Option.{slice_get_within}
 use Rattle.otel_model.specs.Calls as model
 use Rattle.otel_model.specs.Demands.{Views}
 use Rattle.otel_model.specs.Machine.{changed_at, instrument_after_record, part_after_call}
@@ -12,7 +13,7 @@ use Rattle.opentelemetry_sdk.specs.declared.metrics.shared.pending.PendingRecord
 use Rattle.opentelemetry_sdk.proofs.Held.{feeds-synchronous}
 use Rattle.opentelemetry_sdk.proofs.Holding.{holding-feeds, holding-typed, taken-synchronous}
 use Rattle.opentelemetry_sdk.proofs.Sound.{sound-step}
-use Rattle.opentelemetry_sdk.proofs.StepLemmas.{get-inside, record-made}
+use Rattle.opentelemetry_sdk.proofs.StepLemmas.{record-made}
 use Rattle.opentelemetry_sdk.proofs.Typed.{typed-feeds}
 use Rattle.opentelemetry_sdk.proofs.pipeline.Writes.{set-changed}
 use Rattle.opentelemetry_sdk.proofs.metrics.shared.batch.record_one.Goals as goal
@@ -38,7 +39,7 @@ record_listed-requires-clause-synchronous c =
     (feeds-synchronous n st.shared.instruments taken.instrument st.readers there (taken-synchronous (slice_get c.deref.result.now n) taken.instrument (number_of c.in_ok-listed.listed.value).signed taken.there c.in-Ok.ensures.fits) b.sound.typed)
 
 inside : (is shown : List InstrumentState) (n : ℕ) (v : model.Number) → shown ≡ is → IsTakenBy shown n v → n < length is
-inside is shown n v same taken = get-inside is n taken.instrument (ap (λ l. slice_get l n) (sym same) ∙ taken.there)
+inside is shown n v same taken = slice_get_within is n taken.instrument (ap (λ l. slice_get l n) (sym same) ∙ taken.there)
 
 pub index_mut-requires : goal.index_mut-requires
 index_mut-requires c = omega (arith, inside c.args.instruments.now.items _ c.in_ok-listed.listed.instrument (number_of c.in_ok-listed.listed.value) c.deref.ensures.value c.in-Ok.ensures.taken)
