@@ -11,7 +11,7 @@ ghost use Rattle.otel_model_stream.specs.Observed.{fold_in};
 ghost use Rattle.otel_model_stream.specs.Folds.{wrap};
 ghost use Rattle.otel_model_stream.specs.Sets.{AttributeSet, allowed_part, none_set, set_of};
 ghost use Rattle.otel_model_stream.specs.Totals.{points_total};
-ghost use Rattle.otel_aggregate.specs.value_map.Contents.{known_of, IsOverflowAt};
+ghost use Rattle.otel_aggregate.specs.value_map.Contents.{known_of};
 ghost use Rattle.otel_aggregate.specs.value_map.Faults.{IsBindFault};
 ghost use Rattle.otel_aggregate.specs.value_map.Numbers.{number_of, is_number, handles_at, AreNamed, AreNumbered, spelling_of, is_placed, KeepNumbers, KeepLeft};
 ghost use Rattle.otel_aggregate.specs.value_map.Slots.{HasForm, copies};
@@ -20,10 +20,11 @@ use crate::aggregators::aggregator::Aggregator;
 use crate::sets::allowed_keys::AllowedKeys;
 use crate::sets::references::{kept_references, references_to};
 use crate::value_map::draft::Draft;
-use crate::value_map::hashed_key::{GivenAttributes, HashedSet, OwnedSet};
+use crate::value_map::hashed_key::{GivenAttributes, HashedSet};
 use crate::value_map::hashing::SetHashBuilder;
 use crate::value_map::maker::{Copies, PointMaker};
 use crate::value_map::pending::{Pending, form_led_to, led_to, make_ready, plan, take_slot};
+use crate::value_map::sets::is_overflow;
 use crate::value_map::slots::Slot;
 use crate::value_map::table::Table;
 use otel_common::attributes::KeyValue;
@@ -63,15 +64,12 @@ pub struct ValueMap<A: Aggregator> {
     table: Table<A>,
     /// An aggregator made in advance for the next new entry.
     unused: Option<A>,
-    /// The set of the overflow entry, made in advance as that entry's key, and for looking it up.
-    spare_key: Option<OwnedSet>,
     pending: Pending,
 }
 
 impl<A: Aggregator> Model for ValueMap<A> {
     ghost use Rattle.std.specs.Prelude.{◌≡◌, ◌&&◌, nat_lt, is_some, IfSome};
     ghost use Rattle.std.specs.Map.{keys_of};
-    ghost use Rattle.otel_model_stream.specs.Sets.{over_set};
     ghost use Rattle.otel_model_stream.specs.Entries.{number_counted};
     ghost use Rattle.otel_aggregate.specs.value_map.Contents.{MapContents, pending_in, spelling_in, IsSound};
 
@@ -81,14 +79,13 @@ impl<A: Aggregator> Model for ValueMap<A> {
       state = record { limit = m.limit; empty = A.empty m.config; table = m.table.table };
       numbers = m.table.numbers;
       given = keys_of m.table.aliases;
-      pending = pending_in (nat_lt m.count m.limit) m.table.numbers m.pending;
+      pending = pending_in m.table.numbers m.pending;
       spelling = spelling_in m.pending;
     } };
 
     ghost invariant = { λ m. (m.count ≡ number_counted m.table.table.entries)
         × IfSome m.unused (λ made. A.meaning made ≡ A.empty m.config)
-        × IfSome m.spare_key (λ key. key ≡ over_set)
-        × IsSound m.table (nat_lt m.count m.limit) (is_some m.unused && (is_some m.spare_key && m.table.room)) m.pending };
+        × IsSound m.table (nat_lt m.count m.limit) (is_some m.unused && m.table.room) m.pending };
 }
 
 impl<A: Aggregator> Drop for ValueMap<A> {
@@ -101,7 +98,6 @@ impl<A: Aggregator> Drop for ValueMap<A> {
             count: _,
             table: _table,
             unused: _unused,
-            spare_key: _spare_key,
             pending: _pending,
         } = self;
     }
@@ -131,7 +127,6 @@ impl<A: Aggregator> ValueMap<A> {
             count: 0,
             table,
             unused: None,
-            spare_key: None,
             pending: Pending::Nothing,
         })
     }
@@ -185,27 +180,12 @@ impl<A: Aggregator> ValueMap<A> {
     {
         self.pending.give_up();
         let is_few = self.count < self.limit;
-        let overflow = self.overflow();
-        let plan = plan(
-            self.alloc,
-            &self.table,
-            is_few,
-            overflow,
-            list,
-            allow,
-            attributes,
-        )?;
+        let plan = plan(self.alloc, &self.table, is_few, list, allow, attributes)?;
         if let Pending::At(_) = plan {
             self.pending = plan;
             return Ok(());
         }
-        make_ready(
-            &mut self.table,
-            &mut self.unused,
-            &mut self.spare_key,
-            self.alloc,
-            &self.config,
-        )?;
+        make_ready(&mut self.table, &mut self.unused, self.alloc, &self.config)?;
         self.pending = plan;
         Ok(())
     }
@@ -242,19 +222,14 @@ impl<A: Aggregator> ValueMap<A> {
             Pending::At(number) => return number,
             Pending::New(set, list) => (set, list),
         };
-        let overflow = self.spare_key.as_ref().unwrap();
+        let lasting = is_overflow(set.as_slice());
         if self.count < self.limit {
-            let lasting = set.is_same(overflow);
             self.count += 1;
             let slot = take_slot(&mut self.unused, &self.config, true, lasting);
             return self.table.add(set, list, slot);
         }
-        if let Some(number) = self.table.find_set(&overflow.lent()) {
-            return number;
-        }
-        let slot = take_slot(&mut self.unused, &self.config, false, true);
-        let key = self.spare_key.take().unwrap();
-        self.table.add(key, None, slot)
+        let slot = take_slot(&mut self.unused, &self.config, false, lasting);
+        self.table.add(set, list, slot)
     }
 
     /// Prepares a record or a bind for the canonical form of the attributes, in place of one that was prepared before.
@@ -414,18 +389,6 @@ impl<A: Aggregator> ValueMap<A> {
         Ok(())
     }
 
-    /// The number of the overflow entry, if it is there and the limit is reached, and if the set that it is looked up by
-    /// is there too.
-    fn overflow(&self) -> Option<usize>
-        ensures { IfSome result (IsOverflowAt self.now) }
-    {
-        if self.limit > self.count {
-            return None;
-        }
-        let overflow = self.spare_key.as_ref()?;
-        self.table.find_set(&overflow.lent())
-    }
-
     /// Carries out the prepared bind, and returns the number of the entry: that of the set, or the overflow entry.
     /// This is the second phase; it can't fail.
     pub(crate) fn commit_bind(&mut self) -> usize
@@ -444,23 +407,13 @@ impl<A: Aggregator> ValueMap<A> {
 
     /// How many live handles the entry has that the prepared bind uses; none if the entry is still to be made.
     fn handles_there(&self) -> u64
-        ensures { (s : AttributeSet) → self.now.pending ≡ Some s → result ≡ handles_at (bound_to s self.now.state) self.now.state.table }
+        ensures { (s : AttributeSet) → self.now.pending ≡ Some s → result ≡ handles_at s self.now.state.table }
     {
-        if let Pending::At(number) = self.pending {
-            return self.table.handles(number);
-        }
         // Tells the prover that the first entry is the empty set's.
         self.table.law_of_empty_set();
-        if self.limit > self.count {
-            return 0;
-        }
-        // A record or a bind for a new set has such a key.
-        let Some(overflow) = &self.spare_key else {
-            return 0;
-        };
-        match self.table.find_set(&overflow.lent()) {
-            Some(number) => self.table.handles(number),
-            None => 0,
+        match self.pending {
+            Pending::At(number) => self.table.handles(number),
+            _ => 0,
         }
     }
 

@@ -2,6 +2,8 @@
 use Rattle.std.proofs.Common.{ℕ, ◌≡◌, Bool, true, false, cond, ◌||◌, List, [], ◌∷◌, ◌++◌, Option, Some, None, is_some, map, refl, sym, ap, subst, ◌∙◌, nat_eq, true≢false, eqb-true}
 use Rattle.std.specs.List.{AllByRecursion, IsDistinct, list_any}
 use Rattle.std.specs.Map.{lookup, keys_of, values_of}
+use Rattle.std.specs.Option.{option_or}
+use Rattle.std.specs.Bool.{then_some}
 use Rattle.std.specs.Set.{is_member}
 use Rattle.std.proofs.lemmas.Bool.{false_from_ne_true}
 use Rattle.std.proofs.lemmas.Cmp.{nat_eq_equiv}
@@ -15,7 +17,7 @@ use Rattle.otel_aggregate.specs.value_map.Slots.{Kept, Look, SameLook, Keyed, wi
 use Rattle.otel_aggregate.specs.value_map.Keyed.{Fits, Links, IsConsistent, IsNew, IsSpelling, is_lasting, is_counted, with_spelling}
 use Rattle.otel_aggregate.specs.value_map.Numbers.{KeepNumbers}
 use Rattle.otel_aggregate.proofs.All.{all-map, all-each, all-append}
-use Rattle.otel_aggregate.proofs.value_map.KeyedLemmas.{set_eq-self, set_eq_equiv, same_number, entries-same, fits-as, linked-set}
+use Rattle.otel_aggregate.proofs.value_map.KeyedLemmas.{set_eq-self, set_eq-flip, same_set, set_eq_equiv, same_number, entries-same, fits-as, linked-set}
 
 any_none : (n : ℕ) (ys : List ℕ) → AllByRecursion (λ y. nat_eq n y ≡ false) ys → list_any (nat_eq n) ys ≡ false
 any_none n [] h = refl
@@ -44,6 +46,15 @@ lookup-pushed s (x ∷ es) n e = by (set_eq s x.0) e (lookup-pushed s es n)
     by : (b : Bool) → cond b (Some x.1) (lookup (set_eq s) es) ≡ None → (lookup (set_eq s) es ≡ None → lookup (set_eq s) (es ++ (s, n) ∷ []) ≡ Some n) → cond b (Some x.1) (lookup (set_eq s) (es ++ (s, n) ∷ [])) ≡ Some n
     by true r ih = absurd (cc)
     by false r ih = ih r
+
+lookup-other : (s : AttributeSet) (es : List Keyed) (y : Keyed) → set_eq s y.0 ≡ false → lookup (set_eq s) (es ++ y ∷ []) ≡ lookup (set_eq s) es
+lookup-other s [] y q = ap (λ b. cond b (Some y.1) None) q
+lookup-other s (x ∷ es) y q = ap (λ o. cond (set_eq s x.0) (Some x.1) o) (lookup-other s es y q)
+
+-- the overflow set has the new number if it is the new set
+pub over-pushed : (lasting : Bool) (set : AttributeSet) (es : List Keyed) (n : ℕ) → lasting ≡ set_eq set over_set → lookup (set_eq set) es ≡ None → lookup (set_eq over_set) (es ++ (set, n) ∷ []) ≡ option_or (then_some lasting n) (lookup (set_eq over_set) es)
+over-pushed true set es n q absent = subst (λ s. lookup (set_eq s) (es ++ (set, n) ∷ []) ≡ Some n) (same_set set over_set (sym q)) (lookup-pushed set es n absent)
+over-pushed false set es n q absent = lookup-other over_set es (set, n) (set_eq-flip over_set set ∙ sym q)
 
 -- what entries had a number keep it
 pub numbers-pushed : (none : ℕ) (es : List Keyed) (y : Keyed) → KeepNumbers (record { none = none; sets = es }) (record { none = none; sets = es ++ y ∷ [] })

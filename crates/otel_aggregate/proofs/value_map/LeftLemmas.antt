@@ -16,7 +16,7 @@ use Rattle.otel_aggregate.specs.value_map.Slots.{Kept, Look, Keyed, remains, for
 use Rattle.otel_aggregate.specs.value_map.Keyed.{Fits, Links, IsConsistent, is_lasting, is_counted}
 use Rattle.otel_aggregate.specs.value_map.Numbers.{KeepLeft}
 use Rattle.otel_aggregate.proofs.All.{all-passing, all-left, distinct-left}
-use Rattle.otel_aggregate.proofs.value_map.KeyedLemmas.{set_eq_equiv, has_lookup, fits-as, kept-new}
+use Rattle.otel_aggregate.proofs.value_map.KeyedLemmas.{set_eq_equiv, set_eq-flip, has_lookup, fits-as, kept-new}
 
 -- what is filled is left
 abbrev pub is_left : Look → Keyed → Bool
@@ -40,6 +40,25 @@ module _ (look other : Look) (w : (n : ℕ) → other n ≡ left_of (look n)) wh
             two (remains k) (forgotten k) (other n) new ∙ keep,
             λ h. ap (entry_of s) (new ∙ ap (λ b. cond b (Some (forgotten k)) None) (keep ∙ h)),
           )
+
+  -- the overflow set keeps its slot
+  pub over-left : (es : List Keyed) → AllByRecursion (Fits look) es → lookup (set_eq over_set) (filter (is_left other) es) ≡ lookup (set_eq over_set) es
+  over-left [] h = refl
+  over-left (x ∷ es) h = by (set_eq over_set x.0) (is_left other x) refl refl (over-left es h.1)
+    where
+      stay : set_eq over_set x.0 ≡ true → is_left other x ≡ true
+      stay q = (entry-left x.0 x.1 h.0.filled h.0.lasting).0 ∙ lasts (look x.1)
+        where
+          lasts : (o : Option Kept) → stays (entry_of x.0 o) ≡ true
+          lasts None = set_eq-flip x.0 over_set ∙ q
+          lasts (Some k) = or_right k.updated _ (or_right (nat_lt 0 k.handles) _ (set_eq-flip x.0 over_set ∙ q))
+
+      by : (b c : Bool) → set_eq over_set x.0 ≡ b → is_left other x ≡ c → lookup (set_eq over_set) (filter (is_left other) es) ≡ lookup (set_eq over_set) es
+          → lookup (set_eq over_set) (cond (is_left other x) (x ∷ filter (is_left other) es) (filter (is_left other) es)) ≡ cond (set_eq over_set x.0) (Some x.1) (lookup (set_eq over_set) es)
+      by true true q p ih = rw (p, q) refl
+      by true false q p ih = absurd (true≢false (sym (stay q) ∙ p))
+      by false true q p ih = rw (p, q) ih
+      by false false q p ih = rw (p, q) ih
 
   entries-left : (es : List Keyed) → AllByRecursion (Fits look) es → map (entry_at other) (filter (is_left other) es) ≡ map reset (filter stays (map (entry_at look) es))
   entries-left [] h = refl

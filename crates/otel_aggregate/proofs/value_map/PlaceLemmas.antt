@@ -140,29 +140,8 @@ sound-nothing t few room p is = subst (IsSound t few room) (sym is) tt
 pub new-prepared : (t : Slotted) (few room : Bool) (p : Pending) (set : AttributeSet) (list : Option (List KeyValue)) → IsSound t few room p → New set list ≡ p → IsReady t few room set list
 new-prepared t few room p set list sound is = subst (IsSound t few room) (sym is) sound
 
-pub new-set : (few : Bool) (ns : Numbers) (p : Pending) (set s : AttributeSet) (list : Option (List KeyValue)) → New set list ≡ p → pending_in few ns p ≡ Some s → cond few set over_set ≡ s
-new-set few ns p set s list is e = let both : Some (cond few set over_set) ≡ Some s = ap (pending_in few ns) is ∙ e in cc
-
--- below the limit that is the set that is prepared
-pub new-there : (t : Slotted) (few room : Bool) (p : Pending) (s : AttributeSet) → IsSound t few room p → ((n : ℕ) → p ≡ At n → ⊥) → few ≡ true → pending_in few t.numbers p ≡ Some s → (set_eq s none_set ≡ false) × (has s t.table.entries ≡ false)
-new-there t few room Nothing s sound other below e = absurd (cc)
-new-there t few room (At n) s sound other below e = absurd (other n refl)
-new-there t few room (New set list) s sound other below e =
-    let used : cond few set over_set ≡ s = cc in
-    let same : set ≡ s = ap (λ b. cond b set over_set) (sym below) ∙ used in
-    (subst (λ x. set_eq x none_set ≡ false) same sound.new.some, subst (λ x. has x t.table.entries ≡ false) same sound.absent)
-
--- and past it the overflow set
-pub over-there : (few : Bool) (ns : Numbers) (p : Pending) (s : AttributeSet) → ((n : ℕ) → p ≡ At n → ⊥) → few ≡ false → pending_in few ns p ≡ Some s → s ≡ over_set
-over-there few ns Nothing s other past e = absurd (cc)
-over-there few ns (At n) s other past e = absurd (other n refl)
-over-there few ns (New set list) s other past e =
-    let used : cond few set over_set ≡ s = cc in
-    sym used ∙ ap (λ b. cond b set over_set) past
-
--- the key that was made in advance
-pub made_key : (o : Option AttributeSet) (key : AttributeSet) → IfSome o (λ k. k ≡ over_set) → o ≡ Some key → key ≡ over_set
-made_key o key h e = let P : Option AttributeSet → Type 0 = λ p. IfSome p (λ k. k ≡ over_set) in subst P e h
+pub new-set : (ns : Numbers) (p : Pending) (set s : AttributeSet) (list : Option (List KeyValue)) → New set list ≡ p → pending_in ns p ≡ Some s → set ≡ s
+new-set ns p set s list is e = let both : Some set ≡ Some s = ap (pending_in ns) is ∙ e in cc
 
 -- the numbers with one more
 numbers-added : (old new : Numbers) (s : AttributeSet) (n : ℕ) → new.none ≡ old.none → new.sets ≡ old.sets ++ (s, n) ∷ [] → IsNew old.sets s → KeepNumbers old new × (number_of s new ≡ Some n)
@@ -191,10 +170,10 @@ placed limit empty t after n s used counted lasting slot place new made table no
     }
 
 -- nothing is prepared any more
-pub nothing-left : (few : Bool) (ns : Numbers) (p : Pending) → pending_in few ns p ≡ None → p ≡ Nothing
-nothing-left few ns Nothing e = refl
-nothing-left few ns (At n) e = absurd (cc)
-nothing-left few ns (New set list) e = absurd (cc)
+pub nothing-left : (ns : Numbers) (p : Pending) → pending_in ns p ≡ None → p ≡ Nothing
+nothing-left ns Nothing e = refl
+nothing-left ns (At n) e = absurd (cc)
+nothing-left ns (New set list) e = absurd (cc)
 
 -- ======== handles ========
 few-push : (x : AttributeSet) (es : List Entry) (e : Entry) (n : ℕ) → 0 < n → e.handles ≡ 0 → handles_in x es < n → handles_in x (es ++ e ∷ []) < n
@@ -229,11 +208,13 @@ handles-away : (x : AttributeSet) (es : List Entry) → has x es ≡ false → h
 handles-away x [] e = refl
 handles-away x (r ∷ rs) e = let q = or_parts (is_of x r) (has x rs) e in (λ i. cond (q.0 i) r.handles (handles_in x rs)) ∙ handles-away x rs q.1
 
--- nor has the entry that a bind uses, where that is still to be made
-pub unheld : (m : MapState) (s : AttributeSet) (after : List Entry) (used : AttributeSet) → Placing m.limit m.empty s m.table.entries after used → m.table.none.set ≡ none_set → set_eq used none_set ≡ false → has used m.table.entries ≡ false → 0 ≡ handles_at (bound_to s m) m.table
-unheld m s after used p is some away =
-    let t : Table = m.table in
-    sym (ap (λ (es : List Entry). handles_at (entry_for s es) t) (sym p.state) ∙ ap (λ (x : AttributeSet). handles_at x t) p.goal
-    ∙ ap (λ (k : AttributeSet). cond (set_eq k used) t.none.handles (handles_in used t.entries)) is
-    ∙ ap (λ b. cond b t.none.handles (handles_in used t.entries)) (set_eq-flip none_set used ∙ some)
-    ∙ handles-away used t.entries away)
+-- nor has the entry that is still to be made for what is prepared
+pub unheld : (t : Slotted) (few room : Bool) (p : Pending) (s : AttributeSet) → IsSound t few room p → ((n : ℕ) → p ≡ At n → ⊥) → t.table.none.set ≡ none_set → pending_in t.numbers p ≡ Some s → 0 ≡ handles_at s t.table
+unheld t few room Nothing s sound other is e = absurd (cc)
+unheld t few room (At n) s sound other is e = absurd (other n refl)
+unheld t few room (New set list) s sound other is e =
+    let same : set ≡ s = cc in
+    subst (λ x. 0 ≡ handles_at x t.table) same
+    (sym (ap (λ (k : AttributeSet). cond (set_eq k set) t.table.none.handles (handles_in set t.table.entries)) is
+    ∙ ap (λ b. cond b t.table.none.handles (handles_in set t.table.entries)) (set_eq-flip none_set set ∙ sound.new.some)
+    ∙ handles-away set t.table.entries sound.absent))

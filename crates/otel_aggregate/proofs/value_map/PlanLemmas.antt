@@ -1,24 +1,24 @@
 -- What a record is to do, in a map.
 use Rattle.std.proofs.Common.{◌≡◌, Bool, true, false, cond, not, ◌||◌, ◌&&◌, List, [], ◌∷◌, Option, Some, None, is_some, ℕ, refl, sym, ap, subst, ◌∙◌, true≢false}
 use Rattle.std.specs.Map.{lookup, keys_of}
-use Rattle.std.specs.Option.{IfSome}
-use Rattle.std.specs.Prelude.{IsTrue}
+use Rattle.std.specs.Prelude.{IsTrue, IfOk, Result, Ok, Err}
 use Rattle.std.specs.Set.{is_member}
 use Rattle.std.proofs.lemmas.Bool.{and_right, or_parts}
 use Rattle.std.proofs.lemmas.Map.Made.{is_some-lookup}
 use Rattle.otel_common.specs.Canonical.{canon}
 use Rattle.otel_common.specs.Equality.{set_eq}
 use Rattle.otel_common.specs.declared.attributes.KeyValue.{KeyValue}
+use Rattle.otel_common.specs.declared.faults.Fault.{Fault}
 use Rattle.otel_common.proofs.CanonLaws.{canon-canon}
 use Rattle.otel_model_stream.specs.Sets.{AttributeSet, none_set, over_set}
 use Rattle.otel_model_stream.specs.Entries.{Entry, has}
 use Rattle.otel_model_stream.specs.Maps.{KnownMap, knows}
 use Rattle.otel_aggregate.specs.value_map.Keyed.{Slotted, IsNew, IsSpelling}
-use Rattle.otel_aggregate.specs.value_map.Numbers.{number_of, set_named, named_in, is_placed, AreNumbered}
-use Rattle.otel_aggregate.specs.value_map.Contents.{IsPlan, IsOverflow, IsSound, IsReady, leads, list_of, used_by}
+use Rattle.otel_aggregate.specs.value_map.Numbers.{number_of, set_named, named_in, is_placed, AreNumbered, IsNumberOf}
+use Rattle.otel_aggregate.specs.value_map.Contents.{IsPlan, IsPlanPast, IsSound, IsReady, leads, list_of, used_by}
 use Rattle.otel_aggregate.specs.declared.value_map.pending.Pending.{Pending}
 use Rattle.otel_aggregate.specs.declared.value_map.pending.Pending.TheVariants.{Nothing, At, New}
-use Rattle.otel_aggregate.proofs.value_map.CanonicalSets.{canon-nil, some-canon}
+use Rattle.otel_aggregate.proofs.value_map.CanonicalSets.{canon-nil, canon-over, some-canon}
 use Rattle.otel_aggregate.proofs.value_map.KeyedLemmas.{same_set, same_number}
 
 -- a set without an entry uses its own if it gets one
@@ -51,8 +51,12 @@ lacking None e = refl
 lacking (Some n) e = absurd (true≢false e)
 
 -- a list that leads to no entry is not the set of one
-pub unlisted : (t : Slotted) (l : List KeyValue) → leads l t ≡ false → has l t.table.entries ≡ false
+unlisted : (t : Slotted) (l : List KeyValue) → leads l t ≡ false → has l t.table.entries ≡ false
 unlisted t l unled = (or-none (set_eq l none_set) (is_member set_eq (keys_of t.aliases) l) (has l t.table.entries) unled).2
+
+-- so a canonical one is the set of none
+pub own-away : (t : Slotted) (l : List KeyValue) → leads l t ≡ false → set_eq (canon l) l ≡ true → has (canon l) t.table.entries ≡ false
+own-away t l unled own = ap (λ (s : AttributeSet). has s t.table.entries) (same_set (canon l) l own) ∙ unlisted t l unled
 
 -- and has no number
 pub unnumbered : (t : Slotted) (l : List KeyValue) → leads l t ≡ false → AreNumbered t.table.entries t.numbers → lookup (set_eq l) t.numbers.sets ≡ None
@@ -71,16 +75,23 @@ module _ (t : Slotted) (l : List KeyValue) (unled : leads l t ≡ false) (away :
   bare : set_eq (canon l) none_set ≡ false
   bare = some-canon l apart.0
 
-  -- the overflow entry, where that is there
-  pub plan-over : (few : Bool) (over : Option ℕ) (n : ℕ) → over ≡ Some n → IfSome over (IsOverflow few t.table.entries t.numbers) → IsPlan t few l (At n)
-  plan-over few over n is h =
-      let at : IsOverflow few t.table.entries t.numbers n = subst (λ (o : Option ℕ). IfSome o (IsOverflow few t.table.entries t.numbers)) is h in
-      record {
-        pending = ap Some (at.2.named ∙ ap (λ b. cond b (canon l) over_set) (sym at.0) ∙ sym (used-new few (canon l) t.table.entries bare away));
-        spelling = sym (ap (λ b. cond ((not (set_eq (canon l) none_set) && (not (has (canon l) t.table.entries) && b)) && not (set_eq (canon l) l)) (l ∷ []) []) at.0 ∙ unadmitted t l);
-        away = λ e. away;
-        sound = λ room ready. (ap (λ s. number_of s t.numbers) at.2.named ∙ at.2.number, ap (λ s. is_placed s t.table.entries) at.2.named ∙ at.1);
-      }
+  -- past the limit, with the overflow entry
+  pub plan-over : (n : ℕ) → IsNumberOf over_set n t.numbers → has over_set t.table.entries ≡ true → IsPlan t false l (At n)
+  plan-over n at there = record {
+    pending = ap Some (at.named ∙ sym (used-new false (canon l) t.table.entries bare away));
+    spelling = sym (unadmitted t l);
+    away = λ e. away;
+    sound = λ room ready. (ap (λ s. number_of s t.numbers) at.named ∙ at.number, ap (λ s. is_placed s t.table.entries) at.named ∙ there);
+  }
+
+  -- and where that is still to be made
+  pub plan-over_new : (set : AttributeSet) → set ≡ over_set → lookup (set_eq over_set) t.numbers.sets ≡ None → has over_set t.table.entries ≡ false → IsPlan t false l (New set None)
+  plan-over_new set is absent gone = record {
+    pending = ap Some (is ∙ sym (used-new false (canon l) t.table.entries bare away));
+    spelling = sym (unadmitted t l);
+    away = λ e. away;
+    sound = λ room ready. subst (λ s. IsReady t false room s None) (sym is) (record { new = record { absent = absent; canonical = canon-over; some = refl }; absent = gone; spelling = tt; past = λ e. refl; ready = ready });
+  }
 
   module _ (absent : lookup (set_eq (canon l)) t.numbers.sets ≡ None) where
     unaliased : lookup (set_eq l) t.aliases ≡ None
@@ -88,26 +99,6 @@ module _ (t : Slotted) (l : List KeyValue) (unled : leads l t ≡ false) (away :
 
     new : IsNew t.numbers.sets (canon l)
     new = record { absent = absent; canonical = canon-canon l; some = bare }
-
-    -- a plan for a new set, by the list that it adds
-    plan-new : (few : Bool) (set : AttributeSet) (o : Option (List KeyValue)) → set ≡ canon l → list_of o ≡ cond ((not (set_eq (canon l) none_set) && (not (has (canon l) t.table.entries) && few)) && not (set_eq (canon l) l)) (l ∷ []) []
-        → IsSpelling t.aliases (canon l) o → (IsTrue (is_some o) → IsTrue few) → IsPlan t few l (New set o)
-    plan-new few set o is adds spelling admitted = record {
-      pending = ap Some (ap (λ s. cond few s over_set) is ∙ sym (used-new few (canon l) t.table.entries bare away));
-      spelling = adds;
-      away = λ e. away;
-      sound = λ room ready. subst (λ s. IsReady t few room s o) (sym is) (record { new = new; absent = away; spelling = spelling; admitted = admitted; ready = ready });
-    }
-
-    -- it is its own set
-    pub plan-own : (few : Bool) (set : AttributeSet) → set ≡ canon l → set_eq (canon l) l ≡ true → IsPlan t few l (New set None)
-    plan-own few set is own = plan-new few set None is
-        (sym (ap (λ b. cond ((not (set_eq (canon l) none_set) && (not (has (canon l) t.table.entries) && few)) && not b) (l ∷ []) []) own ∙ ap (λ b. cond b (l ∷ []) []) (and_right _ false refl)))
-        tt (λ h. absurd (true≢false (sym h)))
-
-    -- past the limit
-    pub plan-past : (set : AttributeSet) → set ≡ canon l → IsPlan t false l (New set None)
-    plan-past set is = plan-new false set None is (sym (unadmitted t l)) tt (λ h. absurd (true≢false (sym h)))
 
     spelled : (b : Bool) → set_eq (canon l) l ≡ b → (o : Option (List KeyValue)) → o ≡ cond b None (Some l) → IsSpelling t.aliases (canon l) o
     spelled true q o e = subst (IsSpelling t.aliases (canon l)) (sym e) tt
@@ -117,11 +108,19 @@ module _ (t : Slotted) (l : List KeyValue) (unled : leads l t ≡ false) (away :
     listed true o e = ap list_of e
     listed false o e = ap list_of e
 
-    -- below it
-    pub plan-admitted : (set : AttributeSet) (o : Option (List KeyValue)) → set ≡ canon l → o ≡ cond (set_eq set l) None (Some l) → IsPlan t true l (New set o)
-    plan-admitted set o is e =
-        let f : o ≡ cond (set_eq (canon l) l) None (Some l) = e ∙ ap (λ s. cond (set_eq s l) None (Some l)) is in
-        plan-new true set o is (listed (set_eq (canon l) l) o f ∙ (λ i. cond ((not (sym bare i) && (not (sym away i) && true)) && not (set_eq (canon l) l)) (l ∷ []) [])) (spelled (set_eq (canon l) l) refl o f) (λ h. refl)
+    -- below the limit
+    pub plan-admitted : (set : AttributeSet) (o : Option (List KeyValue)) → set ≡ canon l → o ≡ cond (set_eq (canon l) l) None (Some l) → IsPlan t true l (New set o)
+    plan-admitted set o is e = record {
+      pending = ap Some (is ∙ sym (used-new true (canon l) t.table.entries bare away));
+      spelling = listed (set_eq (canon l) l) o e ∙ (λ i. cond ((not (sym bare i) && (not (sym away i) && true)) && not (set_eq (canon l) l)) (l ∷ []) []);
+      away = λ e. away;
+      sound = λ room ready. subst (λ s. IsReady t true room s o) (sym is) (record { new = new; absent = away; spelling = spelled (set_eq (canon l) l) refl o e; past = λ f. absurd (true≢false f); ready = ready });
+    }
+
+-- what is planned past the limit is a plan for a list whose set has no entry
+pub past-planned : (t : Slotted) (few : Bool) (l : List KeyValue) (r : Result Pending Fault) → few ≡ false → leads l t ≡ false → has (canon l) t.table.entries ≡ false → IfOk r (IsPlanPast t) → IfOk r (IsPlan t few l)
+past-planned t few l (Ok p) past unled away plan = subst (λ b. IsPlan t b l p) (sym past) (plan l unled away)
+past-planned t few l (Err e) past unled away plan = tt
 
 -- it doesn't depend on the room of the table itself
 pub sound-same : (t n : Slotted) (few room : Bool) (p : Pending) → n.table ≡ t.table → n.numbers ≡ t.numbers → n.aliases ≡ t.aliases → IsSound t few room p → IsSound n few room p
@@ -131,7 +130,7 @@ sound-same t n few room p table numbers aliases sound =
     anew : (p : Pending) → IsSound (record n { room = t.room }) few room p → IsSound n few room p
     anew Nothing s = tt
     anew (At k) s = s
-    anew (New set list) s = record { new = s.new; absent = s.absent; spelling = s.spelling; admitted = s.admitted; ready = s.ready }
+    anew (New set list) s = record { new = s.new; absent = s.absent; spelling = s.spelling; past = s.past; ready = s.ready }
 
 -- a list that isn't known isn't empty
 pub unknown-some : (l : List KeyValue) (k : KnownMap) → knows l k ≡ false → set_eq l none_set ≡ false

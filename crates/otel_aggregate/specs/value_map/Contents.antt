@@ -26,12 +26,11 @@ pub record MapContents : Type 0 where
 abbrev pub known_of : MapContents → KnownMap
 known_of h = record { map_state = h.state; given = h.given }
 
--- the set of the entry that the prepared record or bind uses, if any. A new set uses its own if `few` says that the limit
--- allows one more counted entry, and else the overflow entry
-abbrev pub pending_in : Bool → Numbers → Pending → Option AttributeSet
-pending_in few ns Nothing = None
-pending_in few ns (At n) = Some (set_named n ns)
-pending_in few ns (New s list) = Some (cond few s over_set)
+-- the set of the entry that the prepared record or bind uses, if any
+abbrev pub pending_in : Numbers → Pending → Option AttributeSet
+pending_in ns Nothing = None
+pending_in ns (At n) = Some (set_named n ns)
+pending_in ns (New s list) = Some s
 
 -- the list, if there is one, as a list of lists
 abbrev pub list_of : Option (List KeyValue) → List (List KeyValue)
@@ -50,13 +49,13 @@ spelling_in Nothing = []
 spelling_in (At n) = []
 spelling_in (New s list) = list_of list
 
--- a new set can be given an entry: there is room. The list, if there is one, can become a key too; there is one only if
--- `few` says that the limit allows one more counted entry
+-- a new set can be given an entry: there is room. The list, if there is one, can become a key too. If `few` says that the
+-- limit allows no more counted entries, it is the overflow set
 pub record IsReady (t : Slotted) (few : Bool) (room : Bool) (s : AttributeSet) (list : Option (List KeyValue)) : Type 0 where
   pub new : IsNew t.numbers.sets s
   pub absent : has s t.table.entries ≡ false
   pub spelling : IsSpelling t.aliases s list
-  pub admitted : IsTrue (is_some list) → IsTrue few
+  pub past : few ≡ false → s ≡ over_set
   pub ready : IsTrue room
 
 -- what is prepared can be carried out: the number names a set with an entry, or the new set can be given one
@@ -73,20 +72,16 @@ leads l t = set_eq l none_set || (is_member set_eq (keys_of t.aliases) l || has 
 abbrev pub used_by : Bool → AttributeSet → List Entry → AttributeSet
 used_by few s es = cond (is_placed s es || few) s over_set
 
--- the overflow entry has this number, and sets without entries go to it, since the limit allows no more
-abbrev pub IsOverflow : Bool → List Entry → Numbers → ℕ → Type 0
-IsOverflow few es ns n = (few ≡ false) × (has over_set es ≡ true) × IsNumberOf over_set n ns
-
--- the same of a map
-abbrev pub IsOverflowAt : MapContents → ℕ → Type 0
-IsOverflowAt h = IsOverflow (nat_lt (number_counted h.state.table.entries) h.state.limit) h.state.table.entries h.numbers
-
 -- the plan is what a record or bind of the list is to do. `few` says whether the limit allows one more counted entry
 pub record IsPlan (t : Slotted) (few : Bool) (l : List KeyValue) (plan : Pending) : Type 0 where
-  pub pending : pending_in few t.numbers plan ≡ Some (used_by few (canon l) t.table.entries)
+  pub pending : pending_in t.numbers plan ≡ Some (used_by few (canon l) t.table.entries)
   pub spelling : spelling_in plan ≡ cond ((not (set_eq (canon l) none_set) && (not (has (canon l) t.table.entries) && few)) && not (set_eq (canon l) l)) (l ∷ []) []
   pub away : IsTrue (is_new plan) → has (canon l) t.table.entries ≡ false
   pub sound : (room : Bool) → IsTrue room → IsSound t few room plan
+
+-- past the limit, the plan is what a record or bind of any list whose set has no entry is to do
+abbrev pub IsPlanPast : Slotted → Pending → Type 0
+IsPlanPast t plan = (l : List KeyValue) → leads l t ≡ false → has (canon l) t.table.entries ≡ false → IsPlan t false l plan
 
 -- a record or bind of the list is to use the entry with this number, whether or not the limit allows one more
 abbrev pub IsPlanAt : Slotted → List KeyValue → ℕ → Type 0

@@ -8,7 +8,7 @@ ghost use Rattle.otel_model_stream.specs.Entries.{has};
 ghost use Rattle.otel_model_stream.specs.Sets.{allowed_part, over_set};
 ghost use Rattle.otel_aggregate.specs.value_map.Numbers.{is_placed};
 ghost use Rattle.otel_aggregate.specs.value_map.Slots.{kept_of, new_kept};
-ghost use Rattle.otel_aggregate.specs.value_map.Contents.{IsOverflow, IsPlan, IsPlanAt, leads};
+ghost use Rattle.otel_aggregate.specs.value_map.Contents.{IsPlan, IsPlanAt, IsPlanPast, leads};
 ghost use Rattle.otel_aggregate.specs.declared.value_map.pending.Pending.TheVariants.{Nothing};
 
 use crate::aggregators::aggregator::Aggregator;
@@ -28,9 +28,10 @@ use std::alloc::Global;
 pub enum Pending {
     /// Nothing is prepared.
     Nothing,
-    /// A record or bind for the set whose entry has this number.
+    /// A record or bind that uses the entry with this number.
     At(usize),
-    /// A record or bind for this set, which has no entry, and perhaps another list that is to lead to the entry too.
+    /// A record or bind that uses an entry which is to be made for this set, and to which perhaps another list is to lead
+    /// too.
     New(OwnedSet, Option<OwnedSet>),
 }
 
@@ -83,18 +84,29 @@ pub fn form_led_to<A: Aggregator>(
     table.find_form(allow, attributes)
 }
 
+/// What a record is to do past the limit with a list whose set has no entry: it uses the overflow entry. Nothing is copied,
+/// and once that entry is there it takes no memory.
+fn plan_past<A: Aggregator>(alloc: Global, table: &Table<A>) -> Result<Pending, Fault>
+    ensures plan { IfOk result (IsPlanPast table.now) }
+    ensures there { IsTrue (has over_set table.now.table.entries) → IsOk result }
+    ensures only_memory { IsOkUnless result Fault.OutOfMemory }
+{
+    if let Some(number) = table.overflow() {
+        return Ok(Pending::At(number));
+    }
+    let set = OwnedSet::new(table.hasher(), overflow_set(alloc)?);
+    Ok(Pending::New(set, None))
+}
+
 /// What a record is to do with a list that, as given, leads to no entry and isn't canonical. `few` says whether the
-/// number of counted entries is below the limit, and `overflow` is the number of the overflow entry, if that is to be used
-/// for a set without an entry. Looks the canonical form up, which is handed in too.
+/// number of counted entries is below the limit. Looks the canonical form up, which is handed in too.
 fn plan_sorted<A: Aggregator>(
     alloc: Global,
     table: &Table<A>,
     few: bool,
-    overflow: Option<usize>,
     list: &HashedSet,
     sorted: &HashedSet,
 ) -> Result<Pending, Fault>
-    requires overflow { IfSome overflow (IsOverflow few table.now.table.entries table.now.numbers) }
     requires unled { leads list.now.key table.now ≡ false }
     requires other { set_eq (canon list.now.key) list.now.key ≡ false }
     requires sorted { sorted.now.key ≡ canon list.now.key }
@@ -105,20 +117,16 @@ fn plan_sorted<A: Aggregator>(
     if let Some(number) = table.find_set(sorted) {
         return Ok(Pending::At(number));
     }
-    if let Some(number) = overflow {
-        return Ok(Pending::At(number));
+    if !few {
+        return plan_past(alloc, table);
     }
     let set = sorted.copied(alloc)?;
-    if !few {
-        return Ok(Pending::New(set, None));
-    }
     let key = list.copied(alloc)?;
     Ok(Pending::New(set, Some(key)))
 }
 
 /// What a record is to do with a list that, as given, leads to no entry: with what is kept of these attributes. `few`
-/// says whether the number of counted entries is below the limit, and `overflow` is the number of the overflow entry, if that
-/// is to be used for a set without an entry, which then isn't copied.
+/// says whether the number of counted entries is below the limit.
 ///
 /// Looks the canonical form up if that is another list, by references that are sorted. For up to 16 keys this takes no
 /// memory; if memory for more is refused, the canonical form is looked for without being made.
@@ -127,12 +135,10 @@ pub fn plan<A: Aggregator>(
     alloc: Global,
     table: &Table<A>,
     few: bool,
-    overflow: Option<usize>,
     list: &HashedSet,
     allow: Option<&AllowedKeys>,
     attributes: &[KeyValue],
 ) -> Result<Pending, Fault>
-    requires overflow { IfSome overflow (IsOverflow few table.now.table.entries table.now.numbers) }
     requires list { list.now.key ≡ allowed_part (option_copied allow) attributes.now }
     requires unled { leads list.now.key table.now ≡ false }
     ensures plan { IfOk result (IsPlan table.now few list.now.key) }
@@ -140,8 +146,8 @@ pub fn plan<A: Aggregator>(
     ensures only_memory { IsOkUnless result Fault.OutOfMemory }
 {
     if list.is_canonical() {
-        if let Some(number) = overflow {
-            return Ok(Pending::At(number));
+        if !few {
+            return plan_past(alloc, table);
         }
         // Tells the prover that the set has no number.
         table.law_of_numbers();
@@ -150,47 +156,39 @@ pub fn plan<A: Aggregator>(
     }
     if let Some(references) = few_references(allow, attributes) {
         let sorted = HashedSet::referenced(table.hasher(), references.as_slice());
-        return plan_sorted(alloc, table, few, overflow, list, &sorted);
+        return plan_sorted(alloc, table, few, list, &sorted);
     }
     match many_references(alloc, allow, attributes) {
         Ok(references) => {
             let sorted = HashedSet::referenced(table.hasher(), references.as_slice());
-            plan_sorted(alloc, table, few, overflow, list, &sorted)
+            plan_sorted(alloc, table, few, list, &sorted)
         }
         Err(fault) => match table.find_form(allow, attributes) {
             Some(number) => Ok(Pending::At(number)),
-            None => match overflow {
-                Some(number) => Ok(Pending::At(number)),
-                None => Err(fault),
-            },
+            None if few => Err(fault),
+            None => plan_past(alloc, table),
         },
     }
 }
 
-/// Makes in advance what a new entry takes: room in the table, an aggregator, and the set of the overflow entry.
+/// Makes in advance what a new entry takes: room in the table, and an aggregator.
 pub fn make_ready<A: Aggregator>(
     table: &mut Table<A>,
     unused: &mut Option<A>,
-    key: &mut Option<OwnedSet>,
     alloc: Global,
     config: &A::InitConfig,
 ) -> Result<(), Fault>
     requires unused { IfSome unused.old (λ made. A.meaning made ≡ A.empty config.now) }
-    requires key { IfSome key.old (λ made. made ≡ over_set) }
     ensures table { table.new.table ≡ table.old.table }
     ensures numbers { table.new.numbers ≡ table.old.numbers }
     ensures aliases { table.new.aliases ≡ table.old.aliases }
     ensures empty { IfSome unused.new (λ made. A.meaning made ≡ A.empty config.now) }
-    ensures over { IfSome key.new (λ made. made ≡ over_set) }
-    ensures ready { OnOk result ((is_some unused.new && (is_some key.new && table.new.room)) ≡ true) }
+    ensures ready { OnOk result ((is_some unused.new && table.new.room) ≡ true) }
     ensures only_memory { IsOkUnless result Fault.OutOfMemory }
 {
     table.make_room()?;
     if unused.is_none() {
         *unused = Some(A::create(alloc, config)?);
-    }
-    if key.is_none() {
-        *key = Some(OwnedSet::new(table.hasher(), overflow_set(alloc)?));
     }
     Ok(())
 }

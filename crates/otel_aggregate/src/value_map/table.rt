@@ -39,13 +39,18 @@ pub struct Table<A: Aggregator> {
     slots: Slab<Slot<A>>,
     /// The slot of the empty set, which has no key.
     none: usize,
+    /// The slot of the overflow set, if it has one.
+    overflow: Option<usize>,
     /// The slots that sets and lists lead to.
     keys: KeyTable,
 }
 
 impl<A: Aggregator> Model for Table<A> {
-    ghost use Rattle.std.specs.Prelude.{◌+◌, ◌&&◌, nat_le};
+    ghost use Rattle.std.specs.Prelude.{◌≡◌, ◌+◌, ◌&&◌, nat_le};
+    ghost use Rattle.std.specs.Map.{lookup};
     ghost use Rattle.slab.specs.Slab.{slab_len};
+    ghost use Rattle.otel_common.specs.Equality.{set_eq};
+    ghost use Rattle.otel_model_stream.specs.Sets.{over_set};
     ghost use Rattle.otel_aggregate.specs.value_map.Slots.{look_in};
     ghost use Rattle.otel_aggregate.specs.value_map.Keyed.{Slotted, slotted, IsConsistent};
 
@@ -53,7 +58,7 @@ impl<A: Aggregator> Model for Table<A> {
 
     ghost view = { λ t. slotted (look_in A.meaning t.slots) t.none t.keys.sets t.keys.aliases (nat_le (slab_len t.slots + 1) t.slots.capacity && t.keys.room) };
 
-    ghost invariant = { λ t. IsConsistent (look_in A.meaning t.slots) t.none t.keys.sets t.keys.aliases };
+    ghost invariant = { λ t. IsConsistent (look_in A.meaning t.slots) t.none t.keys.sets t.keys.aliases × (t.overflow ≡ lookup (set_eq over_set) t.keys.sets) };
 }
 
 /// The point of the empty set, whose slot has this number, if that slot was updated, in a list with room for this many
@@ -197,6 +202,7 @@ impl<A: Aggregator> Table<A> {
         Ok(Table {
             slots,
             none,
+            overflow: None,
             keys: KeyTable::new(alloc, hasher),
         })
     }
@@ -228,6 +234,16 @@ impl<A: Aggregator> Table<A> {
         ensures number { result ≡ self.now.numbers.none }
     {
         self.none
+    }
+
+    /// The number of the overflow set's slot, if it has one.
+    #[tactic(auto, using(crate::proofs::value_map::KeyedLemmas::has_lookup))]
+    pub fn overflow(&self) -> Option<usize>
+        ensures number { result ≡ lookup (set_eq over_set) self.now.numbers.sets }
+        ensures placed { is_some result ≡ has over_set self.now.table.entries }
+        ensures named { IfSome result (λ n. IsNumberOf over_set n self.now.numbers) }
+    {
+        self.overflow
     }
 
     /// The number that a set leads to.
@@ -326,8 +342,10 @@ impl<A: Aggregator> Table<A> {
         ensures sets { self.new.numbers.sets ≡ self.old.numbers.sets ++ (set, result) ∷ [] }
         ensures aliases { self.new.aliases ≡ with_spelling list result self.old.aliases }
     {
+        let lasting = slot.lasting;
         let number = fill(&mut self.slots, slot);
         self.keys.add(set, list, number);
+        self.overflow = lasting.then_some(number).or(self.overflow);
         number
     }
 
@@ -362,6 +380,7 @@ impl<A: Aggregator> Table<A> {
     {
         clear_others(&mut self.slots, self.none);
         self.keys.clear();
+        self.overflow = None;
     }
 
     /// The points: that of the empty set if it was updated, then those of the sets in order of making, either all or

@@ -11,9 +11,9 @@ use Rattle.otel_aggregate.proofs.value_map.ValueMap.commit_bind.Goals as goal
 
 pub invariant_of-self : goal.invariant_of-self
 invariant_of-self g c =
-    let spent : pending_in (nat_lt c.self.inside.count c.self.inside.limit) c.self.inside.table.numbers c.self.inside.pending ≡ None = ap (λ (h : MapContents). h.pending) c.self.view_is ∙ c.place-number.ensures.spent in
-    let nothing : c.self.inside.pending ≡ Nothing = nothing-left _ c.self.inside.table.numbers c.self.inside.pending spent in
-    (c.self.invariant.0 ∙ sym c.hold.ensures.counted, c.self.invariant.1, c.self.invariant.2, subst (IsSound _ _ _) (sym nothing) tt)
+    let spent : pending_in c.self.inside.table.numbers c.self.inside.pending ≡ None = ap (λ (h : MapContents). h.pending) c.self.view_is ∙ c.place-number.ensures.spent in
+    let nothing : c.self.inside.pending ≡ Nothing = nothing-left c.self.inside.table.numbers c.self.inside.pending spent in
+    (c.self.invariant.0 ∙ sym c.hold.ensures.counted, c.self.invariant.1, subst (IsSound _ _ _) (sym nothing) tt)
 
 pub hold-requires : goal.hold-requires
 hold-requires g c =

@@ -26,10 +26,9 @@ invariant_of-self-2 g c =
     let t = c.self.inside.table in
     let n = c.make_ready.new.table in
     let few : Bool = nat_lt c.self.inside.count c.self.inside.limit in
-    let room : Bool = is_some c.make_ready.new.unused && (is_some c.make_ready.new.key && n.room) in (
+    let room : Bool = is_some c.make_ready.new.unused && n.room in (
       c.self.invariant.0 ∙ ap (λ (x : Table). number_counted x.entries) (sym c.make_ready.ensures.table),
       c.make_ready.ensures.empty,
-      c.make_ready.ensures.over,
       sound-same t n few room c.in_ok-plan.plan c.make_ready.ensures.table c.make_ready.ensures.numbers c.make_ready.ensures.aliases (c.in_ok-plan.ensures.plan.sound room c.in_ok-make_ready.ensures.ready),
     )
 
@@ -51,7 +50,7 @@ returns-clause-ready g c =
     let s : AttributeSet = canon c.args.list.now.key in
     let few : Bool = nat_lt c.self.inside.count c.self.inside.limit in
     let now : MapState = record { limit = c.self.inside.limit; empty = g.A.Aggregator.empty c.self.inside.config; table = c.self.inside.table.table } in
-    ap (λ (ns : Numbers). pending_in few ns c.in_ok-plan.plan) c.make_ready.ensures.numbers
+    ap (λ (ns : Numbers). pending_in ns c.in_ok-plan.plan) c.make_ready.ensures.numbers
     ∙ c.in_ok-plan.ensures.plan.pending
     ∙ ap Some (ready-by now few s (ap (λ k. nat_lt k c.self.inside.limit) c.self.invariant.0))
     ∙ ap (λ (h : MapContents). Some (bound_to s h.state)) c.self.view_is

@@ -1,4 +1,4 @@
-use Rattle.std.proofs.Common.{◌≡◌, ◌∙◌, ap, sym, subst, true, false, cond, None, Some, Bool, rules}
+use Rattle.std.proofs.Common.{◌≡◌, ◌∙◌, ap, sym, subst, true, false, cond, None, Some, Bool, rules, true≢false}
 use Rattle.std.specs.Map.{lookup}
 use Rattle.otel_common.specs.Canonical.{canon}
 use Rattle.otel_common.specs.Equality.{set_eq}
@@ -6,19 +6,15 @@ use Rattle.otel_model_stream.specs.Sets.{AttributeSet}
 use Rattle.otel_model_stream.specs.Entries.{has}
 use Rattle.otel_aggregate.specs.value_map.Contents.{IsPlan}
 use Rattle.otel_aggregate.specs.declared.value_map.pending.Pending.TheVariants.{New}
-use Rattle.otel_aggregate.proofs.value_map.PlanLemmas.{plan-over, plan-past, plan-admitted}
+use Rattle.otel_aggregate.proofs.value_map.PlanLemmas.{past-planned, plan-admitted}
 use Rattle.otel_aggregate.proofs.value_map.pending.plan_sorted.Goals as goal
 
 pub returns-then-not-few-clause-plan : goal.returns-then-not-few-clause-plan
 returns-then-not-few-clause-plan g c =
-    let t = c.args.table.now in
-    let l = c.args.list.now.key in
-    let sorted : c.args.sorted.now.key ≡ canon l = c.requires.sorted in
-    let set : c.in_ok-set.set ≡ canon l = c.in_ok-set.ensures.copy ∙ sorted in
-    let absent : lookup (set_eq (canon l)) t.numbers.sets ≡ None = ap (λ (s : AttributeSet). lookup (set_eq s) t.numbers.sets) (sym sorted) ∙ sym c.in_default.ensures.number in
-    let away : has (canon l) t.table.entries ≡ false = ap (λ (s : AttributeSet). has s t.table.entries) (sym sorted) ∙ sym c.in_default.ensures.placed in
-    let past : c.args.few ≡ false = search rules in
-    (subst (λ (b : Bool). IsPlan t b l (New c.in_ok-set.set None)) (sym past) (plan-past t l c.requires.unled away absent c.in_ok-set.set set))
+    past-planned c.args.table.now c.args.few c.args.list.now.key c.plan_past.result (search rules) c.requires.unled (ap (λ (s : AttributeSet). has s c.args.table.now.table.entries) (sym c.requires.sorted) ∙ sym c.in_default.ensures.placed) c.plan_past.ensures.plan
+
+pub returns-then-not-few-clause-placed : goal.returns-then-not-few-clause-placed
+returns-then-not-few-clause-placed g c placed = absurd (true≢false (sym placed ∙ ap (λ (s : AttributeSet). has s c.args.table.now.table.entries) (sym c.requires.sorted) ∙ sym c.in_default.ensures.placed))
 
 pub returns-clause-plan : goal.returns-clause-plan
 returns-clause-plan g c =
@@ -29,14 +25,6 @@ returns-clause-plan g c =
     let absent : lookup (set_eq (canon l)) t.numbers.sets ≡ None = ap (λ (s : AttributeSet). lookup (set_eq s) t.numbers.sets) (sym sorted) ∙ sym c.in_default.ensures.number in
     let away : has (canon l) t.table.entries ≡ false = ap (λ (s : AttributeSet). has s t.table.entries) (sym sorted) ∙ sym c.in_default.ensures.placed in
     let below : c.args.few ≡ true = search rules in
-    let other : set_eq c.in_ok-set.set l ≡ false = ap (λ (s : AttributeSet). set_eq s l) set ∙ c.requires.other in
     let key : c.in_ok-key.key ≡ l = c.in_ok-key.ensures.copy in
     (subst (λ (b : Bool). IsPlan t b l (New c.in_ok-set.set (Some c.in_ok-key.key))) (sym below)
-    (plan-admitted t l c.requires.unled away absent c.in_ok-set.set (Some c.in_ok-key.key) set (ap Some key ∙ sym (ap (λ (b : Bool). cond b None (Some l)) other))))
-
-pub returns-in-Some-overflow-clause-plan : goal.returns-in-Some-overflow-clause-plan
-returns-in-Some-overflow-clause-plan g c =
-    let t = c.args.table.now in
-    let l = c.args.list.now.key in
-    let away : has (canon l) t.table.entries ≡ false = ap (λ (s : AttributeSet). has s t.table.entries) (sym c.requires.sorted) ∙ sym c.in_default.ensures.placed in
-    plan-over t l c.requires.unled away c.args.few c.args.overflow c.in-Some-overflow.number c.in-Some-overflow.is c.requires.overflow
+    (plan-admitted t l c.requires.unled away absent c.in_ok-set.set (Some c.in_ok-key.key) set (ap Some key ∙ sym (ap (λ (b : Bool). cond b None (Some l)) c.requires.other))))

@@ -17,10 +17,10 @@ pub returns-clause-named : goal.returns-clause-named
 returns-clause-named g c =
     let look = look_in g.A.Aggregator.meaning c.self.inside.slots in
     let l : List KeyValue = allowed_part (option_copied c.args.allow) c.args.list.now in
-    rw (← c.self.view_is) (if_found look c.self.inside.none c.self.inside.keys.sets c.self.inside.keys.aliases (canon l) c.form_in.result c.self.invariant (λ _. c.form_in.ensures))
+    rw (← c.self.view_is) (if_found look c.self.inside.none c.self.inside.keys.sets c.self.inside.keys.aliases (canon l) c.form_in.result c.self.invariant.0 (λ _. c.form_in.ensures))
 
 pub returns-clause-unknown : goal.returns-clause-unknown
 returns-clause-unknown g c =
     let look = look_in g.A.Aggregator.meaning c.self.inside.slots in
     let l : List KeyValue = allowed_part (option_copied c.args.allow) c.args.list.now in
-    rw (← c.self.view_is) (unfound look c.self.inside.none c.self.inside.keys.sets c.self.inside.keys.aliases l c.form_in.result c.self.invariant c.form_in.ensures)
+    rw (← c.self.view_is) (unfound look c.self.inside.none c.self.inside.keys.sets c.self.inside.keys.aliases l c.form_in.result c.self.invariant.0 c.form_in.ensures)

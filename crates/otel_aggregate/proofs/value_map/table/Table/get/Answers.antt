@@ -14,7 +14,7 @@ returns-then-is_empty g c =
     let look = look_in g.A.Aggregator.meaning c.self.inside.slots in
     let s = c.args.set.now.key in
     rw (← c.self.view_is) (c.shown_in.ensures none_set
-    ∙ sym (shown-none look c.self.inside.none c.self.inside.keys.sets c.self.inside.keys.aliases c.self.invariant s (is_nil s (sym c.is_empty.ensures ∙ c.if-is_empty.true))))
+    ∙ sym (shown-none look c.self.inside.none c.self.inside.keys.sets c.self.inside.keys.aliases c.self.invariant.0 s (is_nil s (sym c.is_empty.ensures ∙ c.if-is_empty.true))))
 
 pub returns-in_err-number : goal.returns-in_err-number
 returns-in_err-number g c =
@@ -22,7 +22,7 @@ returns-in_err-number g c =
     let s = c.args.set.now.key in
     let absent : lookup (set_eq s) c.self.inside.keys.sets ≡ None = sym (ap (λ (t : Slotted). lookup (set_eq s) t.numbers.sets) (sym c.self.view_is)) ∙ sym c.find_set.ensures.number ∙ c.in_err-number.was in
     rw (← c.self.view_is) (rw c.from_residual.ensures
-    (sym (shown-some look c.self.inside.none c.self.inside.keys.sets c.self.inside.keys.aliases c.self.invariant s (some-set s (sym c.is_empty.ensures ∙ c.if-is_empty.false)) ∙ fold_in-absent s look c.self.inside.keys.sets absent)))
+    (sym (shown-some look c.self.inside.none c.self.inside.keys.sets c.self.inside.keys.aliases c.self.invariant.0 s (some-set s (sym c.is_empty.ensures ∙ c.if-is_empty.false)) ∙ fold_in-absent s look c.self.inside.keys.sets absent)))
 
 pub returns : goal.returns
 returns g c =
@@ -31,4 +31,4 @@ returns g c =
     let there : lookup (set_eq s) c.self.inside.keys.sets ≡ Some c.in_ok-number.number = ap (λ (t : Slotted). lookup (set_eq s) t.numbers.sets) c.self.view_is ∙ sym c.find_set.ensures.number ∙ c.in_ok-number.was in
     let is : option_map (λ found. g.A.Aggregator.meaning found.now) c.map.result ≡ option_map (λ (k : Kept). k.fold) (look c.in_ok-number.number) = search (rules, of_calls) in
     rw (← c.self.view_is) (is
-    ∙ sym (shown-some look c.self.inside.none c.self.inside.keys.sets c.self.inside.keys.aliases c.self.invariant s (some-set s (sym c.is_empty.ensures ∙ c.if-is_empty.false)) ∙ fold_in-at s look c.self.inside.keys.sets c.in_ok-number.number there c.self.invariant.fits))
+    ∙ sym (shown-some look c.self.inside.none c.self.inside.keys.sets c.self.inside.keys.aliases c.self.invariant.0 s (some-set s (sym c.is_empty.ensures ∙ c.if-is_empty.false)) ∙ fold_in-at s look c.self.inside.keys.sets c.in_ok-number.number there c.self.invariant.0.fits))

@@ -17,11 +17,11 @@ vacant meaning o m is e = let same : None ≡ Some m = ap (λ p. option_map (λ 
 pub returns-in-Some : goal.returns-in-Some
 returns-in-Some g c = λ s e.
     let inside = c.self.inside in
-    let there = handles-kept (look_in g.A.Aggregator.meaning inside.slots) inside.none inside.keys.sets inside.keys.aliases s c.args.number c.self.invariant (ap (λ (t : Slotted). number_of s t.numbers) c.self.view_is ∙ e) in
+    let there = handles-kept (look_in g.A.Aggregator.meaning inside.slots) inside.none inside.keys.sets inside.keys.aliases s c.args.number c.self.invariant.0 (ap (λ (t : Slotted). number_of s t.numbers) c.self.view_is ∙ e) in
     filled g.A.Aggregator.meaning _ c.in-Some.slot.now _ c.in-Some.ensures there ∙ ap (λ (t : Slotted). handles_at s t.table) c.self.view_is
 
 pub returns-in-None : goal.returns-in-None
 returns-in-None g c = λ s e.
     let inside = c.self.inside in
-    let there = handles-kept (look_in g.A.Aggregator.meaning inside.slots) inside.none inside.keys.sets inside.keys.aliases s c.args.number c.self.invariant (ap (λ (t : Slotted). number_of s t.numbers) c.self.view_is ∙ e) in
+    let there = handles-kept (look_in g.A.Aggregator.meaning inside.slots) inside.none inside.keys.sets inside.keys.aliases s c.args.number c.self.invariant.0 (ap (λ (t : Slotted). number_of s t.numbers) c.self.view_is ∙ e) in
     vacant g.A.Aggregator.meaning _ _ c.in-None.ensures there

@@ -13,11 +13,11 @@ use Rattle.otel_aggregate.proofs.value_map.table.Table.hold.Goals as goal
 
 pub invariant_of-self : goal.invariant_of-self
 invariant_of-self g c =
-    kept-touched held take_handle (λ s k. refl) (λ k. refl) (λ k. refl) _ _ c.args.number c.hold.ensures.look c.self.inside.none c.self.inside.keys.sets c.self.inside.keys.aliases c.self.invariant
+    (kept-touched held take_handle (λ s k. refl) (λ k. refl) (λ k. refl) _ _ c.args.number c.hold.ensures.look c.self.inside.none c.self.inside.keys.sets c.self.inside.keys.aliases c.self.invariant.0, c.self.invariant.1)
 
 pub returns-clause-table : goal.returns-clause-table
 returns-clause-table g c = λ s e.
-    table-touched held take_handle (λ s k. refl) (λ k. refl) (λ k. refl) _ _ c.args.number c.hold.ensures.look c.self.inside.none c.self.inside.keys.sets c.self.inside.keys.aliases s c.self.invariant
+    table-touched held take_handle (λ s k. refl) (λ k. refl) (λ k. refl) _ _ c.args.number c.hold.ensures.look c.self.inside.none c.self.inside.keys.sets c.self.inside.keys.aliases s c.self.invariant.0
     (ap (λ (t : Slotted). number_of s t.numbers) c.self.view_is ∙ e)
     ∙ ap (λ (t : Slotted). at_entry s take_handle t.table) c.self.view_is
 
@@ -27,7 +27,7 @@ hold-requires g c =
     let s = c.requires.0 in
     let e = ap (λ (t : Slotted). number_of s t.numbers) c.self.view_is ∙ c.requires.1 in
     let few : handles_at s (table_at look c.self.inside.none c.self.inside.keys.sets) < 2 ^ 64 - 1 = subst (λ (t : Slotted). handles_at s t.table < 2 ^ 64 - 1) (sym c.self.view_is) c.requires.2 in
-    let held_there = handles-kept look c.self.inside.none c.self.inside.keys.sets c.self.inside.keys.aliases s c.args.number c.self.invariant e in
+    let held_there = handles-kept look c.self.inside.none c.self.inside.keys.sets c.self.inside.keys.aliases s c.args.number c.self.invariant.0 e in
     by g.A.Aggregator.meaning (get c.self.inside.slots c.args.number) _ held_there few
   where
     by : {A : Type 0} (meaning : A → Fold) (o : Option (Slot A)) (m : ℕ) → option_map (λ (k : Kept). k.handles) (option_map (kept_of meaning) o) ≡ Some m → m < 2 ^ 64 - 1 → IfSome o (λ slot. slot.handles < 2 ^ 64 - 1)

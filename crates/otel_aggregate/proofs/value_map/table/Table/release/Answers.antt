@@ -8,7 +8,7 @@ use Rattle.otel_aggregate.proofs.value_map.table.Table.release.Goals as goal
 
 pub returns-clause-table : goal.returns-clause-table
 returns-clause-table g c = λ s e.
-    table-touched released drop_handle (λ s k. refl) (λ k. refl) (λ k. refl) _ _ c.args.number c.release.ensures.look c.self.inside.none c.self.inside.keys.sets c.self.inside.keys.aliases s c.self.invariant
+    table-touched released drop_handle (λ s k. refl) (λ k. refl) (λ k. refl) _ _ c.args.number c.release.ensures.look c.self.inside.none c.self.inside.keys.sets c.self.inside.keys.aliases s c.self.invariant.0
     (ap (λ (t : Slotted). number_of s t.numbers) c.self.view_is ∙ e)
     ∙ ap (λ (t : Slotted). at_entry s drop_handle t.table) c.self.view_is
 

@@ -9,7 +9,7 @@ use Rattle.otel_aggregate.proofs.value_map.table.Table.touch.Goals as goal
 pub returns-clause-table : goal.returns-clause-table
 returns-clause-table g c = λ s e.
     let v = g.A.Aggregator.sample c.args.value in
-    table-touched (written v) (write v) (λ s k. refl) (λ k. refl) (λ k. refl) _ _ c.args.number c.touch.ensures.look c.self.inside.none c.self.inside.keys.sets c.self.inside.keys.aliases s c.self.invariant
+    table-touched (written v) (write v) (λ s k. refl) (λ k. refl) (λ k. refl) _ _ c.args.number c.touch.ensures.look c.self.inside.none c.self.inside.keys.sets c.self.inside.keys.aliases s c.self.invariant.0
     (ap (λ (t : Slotted). number_of s t.numbers) c.self.view_is ∙ e)
     ∙ ap (λ (t : Slotted). at_entry s (write v) t.table) c.self.view_is
 
