@@ -7,7 +7,7 @@ use Rattle.otel_model_stream.specs.Folds.{Aggregate, Amount, empty_of, sample_of
 use Rattle.otel_model_stream.specs.Entries.{Point, points}
 use Rattle.otel_model_stream.specs.Events.{Handles, held_by, without}
 use Rattle.otel_model_stream.specs.Maps.{MapState, new_map, measured_map, bound_map, bound_to, updated_bound, unbound_map, evicted_map}
-use Rattle.otel_aggregate.specs.value_map.Numbers.{is_placed}
+use Rattle.otel_aggregate.specs.value_map.Contents.{is_there_in}
 
 pub record AggregateState : Type 0 where
   pub map_state : MapState
@@ -40,9 +40,9 @@ pub record AggregateContents : Type 0 where
   pub drains : Bool
   pub reported : List Point
 
--- whether the set of these attributes has an entry; the empty one always has
+-- whether the entry that a record of these attributes uses is there
 abbrev pub is_known : AllowList → List KeyValue → MapState → Bool
-is_known allow l m = is_placed (set_of allow l) m.table.entries
+is_known allow l m = is_there_in (set_of allow l) m
 
 -- after a record of an amount under a set
 abbrev pub recorded_set : AttributeSet → Amount → AggregateState → AggregateState

@@ -11,9 +11,9 @@ ghost use Rattle.otel_model_stream.specs.Observed.{fold_in};
 ghost use Rattle.otel_model_stream.specs.Folds.{wrap};
 ghost use Rattle.otel_model_stream.specs.Sets.{AttributeSet, allowed_part, none_set, set_of};
 ghost use Rattle.otel_model_stream.specs.Totals.{points_total};
-ghost use Rattle.otel_aggregate.specs.value_map.Contents.{known_of};
+ghost use Rattle.otel_aggregate.specs.value_map.Contents.{known_of, is_there_in};
 ghost use Rattle.otel_aggregate.specs.value_map.Faults.{IsBindFault};
-ghost use Rattle.otel_aggregate.specs.value_map.Numbers.{number_of, is_number, handles_at, AreNamed, AreNumbered, spelling_of, is_placed, KeepNumbers, KeepLeft};
+ghost use Rattle.otel_aggregate.specs.value_map.Numbers.{number_of, is_number, handles_at, AreNamed, AreNumbered, spelling_of, KeepNumbers, KeepLeft};
 ghost use Rattle.otel_aggregate.specs.value_map.Slots.{HasForm, copies};
 
 use crate::aggregators::aggregator::Aggregator;
@@ -148,7 +148,7 @@ impl<A: Aggregator> ValueMap<A> {
         ensures spelling { OnOk result (self.new.spelling ≡ spelling_of list.now.key self.old.state) }
         ensures refused { OnErr result (self.new.pending ≡ None) }
         ensures known { SucceedsIfKnown list.now.key (known_of self.old) result }
-        ensures placed { IsTrue (is_placed (canon list.now.key) self.old.state.table.entries) → IsOk result }
+        ensures placed { IsTrue (is_there_in (canon list.now.key) self.old.state) → IsOk result }
     {
         if let Some(number) = led_to(&self.table, list) {
             self.pending.give_up();
@@ -175,7 +175,7 @@ impl<A: Aggregator> ValueMap<A> {
         ensures ready { OnOk result (self.new.pending ≡ Some (bound_to (canon list.now.key) self.old.state)) }
         ensures spelling { OnOk result (self.new.spelling ≡ spelling_of list.now.key self.old.state) }
         ensures refused { OnErr result (self.new.pending ≡ None) }
-        ensures placed { IsTrue (is_placed (canon list.now.key) self.old.state.table.entries) → IsOk result }
+        ensures placed { IsTrue (is_there_in (canon list.now.key) self.old.state) → IsOk result }
         ensures only_memory { IsOkUnless result Fault.OutOfMemory }
     {
         self.pending.give_up();
@@ -251,7 +251,7 @@ impl<A: Aggregator> ValueMap<A> {
         ensures spelling { OnOk result (self.new.spelling ≡ spelling_of given.now self.old.state) }
         ensures refused { OnErr result (self.new.pending ≡ None) }
         ensures known { SucceedsIfKnown given.now (known_of self.old) result }
-        ensures placed { IsTrue (is_placed (canon given.now) self.old.state.table.entries) → IsOk result }
+        ensures placed { IsTrue (is_there_in (canon given.now) self.old.state) → IsOk result }
     {
         let list = given.list(self.table.hasher());
         self.prepare_list(&list, None, given.as_slice())
@@ -261,7 +261,8 @@ impl<A: Aggregator> ValueMap<A> {
     /// (Metrics SDK, "View").
     ///
     /// It looks up what is kept without copying it, as given, by references that it finds once. For more than 16 they
-    /// take memory; if it is refused, the canonical form of what is kept is looked for without being made.
+    /// take memory; if it is refused, the canonical form of what is kept is looked for without being made, and past the limit the
+    /// overflow entry is used.
     #[inline(never)]
     pub(crate) fn prepare_allowed(
         &mut self,
@@ -275,7 +276,7 @@ impl<A: Aggregator> ValueMap<A> {
         ensures spelling { OnOk result (self.new.spelling ≡ spelling_of (allowed_part (Some allow.now) attributes.now) self.old.state) }
         ensures refused { OnErr result (self.new.pending ≡ None) }
         ensures known { SucceedsIfKnown (allowed_part (Some allow.now) attributes.now) (known_of self.old) result }
-        ensures placed { IsTrue (is_placed (set_of (Some allow.now) attributes.now) self.old.state.table.entries) → IsOk result }
+        ensures placed { IsTrue (is_there_in (set_of (Some allow.now) attributes.now) self.old.state) → IsOk result }
         ensures only_memory { IsOkUnless result Fault.OutOfMemory }
     {
         if let Some(few) = kept_references(Some(allow), attributes) {
@@ -289,7 +290,8 @@ impl<A: Aggregator> ValueMap<A> {
             return Ok(());
         }
         self.pending.give_up();
-        let Some(number) = form_led_to(&self.table, Some(allow), attributes) else {
+        let few = self.count < self.limit;
+        let Some(number) = form_led_to(&self.table, few, Some(allow), attributes) else {
             return Err(Fault::OutOfMemory);
         };
         self.pending = Pending::At(number);
@@ -356,7 +358,7 @@ impl<A: Aggregator> ValueMap<A> {
         ensures err { OnErr result (known_of self.new ≡ known_of self.old) }
         ensures spent { self.new.pending ≡ None }
         ensures known { SucceedsIfKnown attributes.now (known_of self.old) result }
-        ensures placed { IsTrue (is_placed (canon attributes.now) self.old.state.table.entries) → IsOk result }
+        ensures placed { IsTrue (is_there_in (canon attributes.now) self.old.state) → IsOk result }
         ensures only_memory { IsOkUnless result Fault.OutOfMemory }
     {
         self.measure_given(value, &GivenAttributes::new(attributes))
@@ -375,7 +377,7 @@ impl<A: Aggregator> ValueMap<A> {
         ensures err { OnErr result (known_of self.new ≡ known_of self.old) }
         ensures spent { self.new.pending ≡ None }
         ensures known { SucceedsIfKnown attributes.now (known_of self.old) result }
-        ensures placed { IsTrue (is_placed (canon attributes.now) self.old.state.table.entries) → IsOk result }
+        ensures placed { IsTrue (is_there_in (canon attributes.now) self.old.state) → IsOk result }
         ensures only_memory { IsOkUnless result Fault.OutOfMemory }
     {
         let list = attributes.list(self.table.hasher());
@@ -430,7 +432,7 @@ impl<A: Aggregator> ValueMap<A> {
         ensures err { OnErr result (known_of self.new ≡ known_of self.old) }
         ensures spent { self.new.pending ≡ None }
         ensures known { handles_at (bound_to (canon attributes.now) self.old.state) self.old.state.table < 2 ^ 64 - 1 → SucceedsIfKnown attributes.now (known_of self.old) result }
-        ensures placed { handles_at (bound_to (canon attributes.now) self.old.state) self.old.state.table < 2 ^ 64 - 1 → IsTrue (is_placed (canon attributes.now) self.old.state.table.entries) → IsOk result }
+        ensures placed { handles_at (bound_to (canon attributes.now) self.old.state) self.old.state.table < 2 ^ 64 - 1 → IsTrue (is_there_in (canon attributes.now) self.old.state) → IsOk result }
         ensures refused { IfErr result (IsBindFault (handles_at (bound_to (canon attributes.now) self.old.state) self.old.state.table)) }
     {
         self.prepare(&GivenAttributes::new(attributes))?;

@@ -1,7 +1,6 @@
 -- Where a record's entry is, once its set has a place.
-use Rattle.std.proofs.Common.{ℕ, ◌-◌, ◌^◌, ◌<◌, ◌≡◌, List, [], ◌∷◌, ◌++◌, nat_lt, Bool, true, false, cond, not, ◌||◌, Option, Some, None, append-nil, refl, ap, arith, subst, sym, ◌∙◌}
+use Rattle.std.proofs.Common.{ℕ, ◌-◌, ◌^◌, ◌<◌, ◌≡◌, List, [], ◌∷◌, ◌++◌, nat_lt, Bool, true, false, cond, ◌||◌, Option, Some, None, append-nil, refl, ap, arith, subst, sym, ◌∙◌}
 use Rattle.std.specs.Map.{lookup, keys_of}
-use Rattle.std.specs.Option.{IfSome}
 use Rattle.std.proofs.lemmas.Bool.{cond_both, or_left, or_right, or_parts}
 use Rattle.std.proofs.lemmas.List.Folds.{list_any-append}
 use Rattle.otel_common.specs.Canonical.{canon}
@@ -14,10 +13,9 @@ use Rattle.otel_model_stream.specs.Maps.{MapState, with_place, measured_map, mea
 use Rattle.otel_aggregate.specs.value_map.Keyed.{Slotted, IsNew}
 use Rattle.otel_aggregate.specs.value_map.Slots.{Kept, entry_of, new_kept}
 use Rattle.otel_aggregate.specs.value_map.Numbers.{Numbers, number_of, KeepNumbers, is_placed, set_named, handles_in, handles_at}
-use Rattle.otel_aggregate.specs.value_map.Contents.{MapContents, IsPlan, IsPlanAt, IsSound, IsReady, pending_in, used_by}
+use Rattle.otel_aggregate.specs.value_map.Contents.{IsPlan, IsPlanAt, IsSound, IsReady, pending_in, used_by}
 use Rattle.otel_aggregate.specs.declared.value_map.pending.Pending.{Pending}
 use Rattle.otel_aggregate.specs.declared.value_map.pending.Pending.TheVariants.{Nothing, At, New}
-use Rattle.otel_aggregate.proofs.value_map.CanonicalSets.{some-canon}
 use Rattle.otel_aggregate.proofs.value_map.KeyedLemmas.{same_set, set_eq-self, set_eq-flip}
 use Rattle.otel_aggregate.proofs.value_map.AddLemmas.{lookup-pushed, numbers-pushed}
 

@@ -1,7 +1,7 @@
 -- What a record is to do, in a map.
 use Rattle.std.proofs.Common.{◌≡◌, Bool, true, false, cond, not, ◌||◌, ◌&&◌, List, [], ◌∷◌, Option, Some, None, is_some, ℕ, refl, sym, ap, subst, ◌∙◌, true≢false}
 use Rattle.std.specs.Map.{lookup, keys_of}
-use Rattle.std.specs.Prelude.{IsTrue, IfOk, Result, Ok, Err}
+use Rattle.std.specs.Prelude.{IfOk, Result, Ok, Err}
 use Rattle.std.specs.Set.{is_member}
 use Rattle.std.proofs.lemmas.Bool.{and_right, or_parts}
 use Rattle.std.proofs.lemmas.Map.Made.{is_some-lookup}
@@ -15,7 +15,7 @@ use Rattle.otel_model_stream.specs.Entries.{Entry, has}
 use Rattle.otel_model_stream.specs.Maps.{KnownMap, knows}
 use Rattle.otel_aggregate.specs.value_map.Keyed.{Slotted, IsNew, IsSpelling}
 use Rattle.otel_aggregate.specs.value_map.Numbers.{number_of, set_named, named_in, is_placed, AreNumbered, IsNumberOf}
-use Rattle.otel_aggregate.specs.value_map.Contents.{IsPlan, IsPlanPast, IsSound, IsReady, leads, list_of, used_by}
+use Rattle.otel_aggregate.specs.value_map.Contents.{IsPlan, IsPlanPast, IsSound, IsReady, is_there, leads, list_of, used_by}
 use Rattle.otel_aggregate.specs.declared.value_map.pending.Pending.{Pending}
 use Rattle.otel_aggregate.specs.declared.value_map.pending.Pending.TheVariants.{Nothing, At, New}
 use Rattle.otel_aggregate.proofs.value_map.CanonicalSets.{canon-nil, canon-over, some-canon}
@@ -74,6 +74,16 @@ module _ (t : Slotted) (l : List KeyValue) (unled : leads l t ≡ false) (away :
 
   bare : set_eq (canon l) none_set ≡ false
   bare = some-canon l apart.0
+
+  -- its entry is there only past the limit, with the overflow entry
+  unplaced : is_placed (canon l) t.table.entries ≡ false
+  unplaced = ap (λ b. b || has (canon l) t.table.entries) bare ∙ away
+
+  pub past-there : (few : Bool) → few ≡ false → is_there few (canon l) t.table.entries ≡ has over_set t.table.entries
+  past-there few past = λ i. unplaced i || (not (past i) && has over_set t.table.entries)
+
+  pub none-there : (few : Bool) → few ≡ true → is_there few (canon l) t.table.entries ≡ false
+  none-there few below = λ i. unplaced i || (not (below i) && has over_set t.table.entries)
 
   -- past the limit, with the overflow entry
   pub plan-over : (n : ℕ) → IsNumberOf over_set n t.numbers → has over_set t.table.entries ≡ true → IsPlan t false l (At n)
@@ -135,7 +145,3 @@ sound-same t n few room p table numbers aliases sound =
 -- a list that isn't known isn't empty
 pub unknown-some : (l : List KeyValue) (k : KnownMap) → knows l k ≡ false → set_eq l none_set ≡ false
 unknown-some l k e = (or-none (set_eq l none_set) (is_member set_eq k.given l) (has l k.map_state.table.entries) e).0
-
--- where the set of a list that isn't empty has a place, it has an entry
-pub placed-has : (l : List KeyValue) (es : List Entry) → set_eq l none_set ≡ false → is_placed (canon l) es ≡ true → has (canon l) es ≡ true
-placed-has l es some placed = sym (ap (λ b. b || has (canon l) es) (some-canon l some)) ∙ placed

@@ -1,5 +1,5 @@
 -- What contracts see of a map.
-use Rattle.std.specs.Prelude.{◌≡◌, ◌&&◌, ◌||◌, not, nat_lt, ℕ, Bool, true, false, cond, List, [], ◌∷◌, Option, Some, None, IsTrue, is_some}
+use Rattle.std.specs.Prelude.{◌≡◌, ◌&&◌, ◌||◌, not, nat_lt, ℕ, Bool, true, false, cond, List, [], ◌∷◌, Option, Some, None, IsTrue}
 use Rattle.std.specs.Map.{keys_of}
 use Rattle.std.specs.Set.{is_member}
 use Rattle.otel_common.specs.Canonical.{canon}
@@ -9,7 +9,7 @@ use Rattle.otel_model_stream.specs.Sets.{AttributeSet, none_set, over_set}
 use Rattle.otel_model_stream.specs.Entries.{Entry, has, number_counted}
 use Rattle.otel_model_stream.specs.Maps.{MapState, KnownMap}
 use Rattle.otel_aggregate.specs.value_map.Keyed.{Slotted, IsNew, IsSpelling}
-use Rattle.otel_aggregate.specs.value_map.Numbers.{Numbers, number_of, set_named, is_placed, IsNumberOf}
+use Rattle.otel_aggregate.specs.value_map.Numbers.{Numbers, number_of, set_named, is_placed}
 use Rattle.otel_aggregate.specs.declared.value_map.pending.Pending.{Pending}
 use Rattle.otel_aggregate.specs.declared.value_map.pending.Pending.TheVariants.{Nothing, At, New}
 
@@ -71,6 +71,14 @@ leads l t = set_eq l none_set || (is_member set_eq (keys_of t.aliases) l || has 
 -- the set whose entry a record or bind of the set uses: its own if it has one or gets one, and else the overflow set
 abbrev pub used_by : Bool → AttributeSet → List Entry → AttributeSet
 used_by few s es = cond (is_placed s es || few) s over_set
+
+-- whether the entry that a record or bind of the set uses is there
+abbrev pub is_there : Bool → AttributeSet → List Entry → Bool
+is_there few s es = is_placed s es || (not few && has over_set es)
+
+-- the same in a map
+abbrev pub is_there_in : AttributeSet → MapState → Bool
+is_there_in s m = is_there (nat_lt (number_counted m.table.entries) m.limit) s m.table.entries
 
 -- the plan is what a record or bind of the list is to do. `few` says whether the limit allows one more counted entry
 pub record IsPlan (t : Slotted) (few : Bool) (l : List KeyValue) (plan : Pending) : Type 0 where

@@ -6,10 +6,9 @@ ghost use Rattle.otel_common.specs.Canonical.{canon};
 ghost use Rattle.otel_common.specs.Equality.{set_eq};
 ghost use Rattle.otel_model_stream.specs.Entries.{has};
 ghost use Rattle.otel_model_stream.specs.Sets.{allowed_part, over_set};
-ghost use Rattle.otel_aggregate.specs.value_map.Numbers.{is_placed};
 ghost use Rattle.otel_aggregate.specs.value_map.Slots.{kept_of, new_kept};
-ghost use Rattle.otel_aggregate.specs.value_map.Contents.{IsPlan, IsPlanAt, IsPlanPast, leads};
-ghost use Rattle.otel_aggregate.specs.declared.value_map.pending.Pending.TheVariants.{Nothing};
+ghost use Rattle.otel_aggregate.specs.value_map.Contents.{IsPlan, IsPlanAt, IsPlanPast, is_there, leads};
+ghost use Rattle.otel_aggregate.specs.declared.value_map.pending.Pending.TheVariants.{Nothing, At};
 
 use crate::aggregators::aggregator::Aggregator;
 use crate::sets::allowed_keys::AllowedKeys;
@@ -67,21 +66,27 @@ pub fn led_to<A: Aggregator>(table: &Table<A>, list: &HashedSet) -> Option<usize
     table.find(list)
 }
 
-/// The number of the entry to which the canonical form of what is kept of the attributes leads, which isn't made: it
-/// goes over all sets of the table, and takes no memory.
+/// The number of the entry that a record of what is kept of the attributes uses, if that is there: the one to which their
+/// canonical form leads, which isn't made, or else past the limit the overflow entry. `few` says whether the number of
+/// counted entries is below the limit. It goes over all sets of the table, and takes no memory.
 pub fn form_led_to<A: Aggregator>(
     table: &Table<A>,
+    few: bool,
     allow: Option<&AllowedKeys>,
     attributes: &[KeyValue],
 ) -> Option<usize>
-    ensures plan { IfSome result (IsPlanAt table.now (allowed_part (option_copied allow.entry) attributes.now)) }
+    ensures plan { IfSome result (λ n. IsPlan table.now few (allowed_part (option_copied allow.entry) attributes.now) (At n)) }
     ensures unled { IfNone result (leads (allowed_part (option_copied allow.entry) attributes.now) table.now ≡ false) }
-    ensures unplaced { IfNone result (is_placed (canon (allowed_part (option_copied allow.entry) attributes.now)) table.now.table.entries ≡ false) }
+    ensures there { IfNone result (is_there few (canon (allowed_part (option_copied allow.entry) attributes.now)) table.now.table.entries ≡ false) }
 {
     if is_form_of(&[], allow, attributes) {
         return Some(table.none());
     }
-    table.find_form(allow, attributes)
+    let found = table.find_form(allow, attributes);
+    if few || found.is_some() {
+        return found;
+    }
+    table.overflow()
 }
 
 /// What a record is to do past the limit with a list whose set has no entry: it uses the overflow entry. Nothing is copied,
@@ -111,7 +116,7 @@ fn plan_sorted<A: Aggregator>(
     requires other { set_eq (canon list.now.key) list.now.key ≡ false }
     requires sorted { sorted.now.key ≡ canon list.now.key }
     ensures plan { IfOk result (IsPlan table.now few list.now.key) }
-    ensures placed { IsTrue (has (canon list.now.key) table.now.table.entries) → IsOk result }
+    ensures there { IsTrue (is_there few (canon list.now.key) table.now.table.entries) → IsOk result }
     ensures only_memory { IsOkUnless result Fault.OutOfMemory }
 {
     if let Some(number) = table.find_set(sorted) {
@@ -142,7 +147,7 @@ pub fn plan<A: Aggregator>(
     requires list { list.now.key ≡ allowed_part (option_copied allow) attributes.now }
     requires unled { leads list.now.key table.now ≡ false }
     ensures plan { IfOk result (IsPlan table.now few list.now.key) }
-    ensures placed { IsTrue (has (canon list.now.key) table.now.table.entries) → IsOk result }
+    ensures there { IsTrue (is_there few (canon list.now.key) table.now.table.entries) → IsOk result }
     ensures only_memory { IsOkUnless result Fault.OutOfMemory }
 {
     if list.is_canonical() {
@@ -163,10 +168,9 @@ pub fn plan<A: Aggregator>(
             let sorted = HashedSet::referenced(table.hasher(), references.as_slice());
             plan_sorted(alloc, table, few, list, &sorted)
         }
-        Err(fault) => match table.find_form(allow, attributes) {
+        Err(fault) => match form_led_to(table, few, allow, attributes) {
             Some(number) => Ok(Pending::At(number)),
-            None if few => Err(fault),
-            None => plan_past(alloc, table),
+            None => Err(fault),
         },
     }
 }

@@ -1,6 +1,6 @@
-use Rattle.std.proofs.Common.{◌≡◌, ◌∙◌, ◌++◌, Some, ap, sym, subst}
+use Rattle.std.proofs.Common.{◌∙◌, ◌++◌, Some, ap, sym, subst}
 use Rattle.otel_common.specs.Canonical.{canon}
-use Rattle.otel_model_stream.specs.Maps.{bound_map, bound_list, bound_to}
+use Rattle.otel_model_stream.specs.Maps.{bound_map, bound_to}
 use Rattle.otel_model_stream.specs.Laws.{AreKnown}
 use Rattle.otel_model_stream.proofs.KnownLists.{known_bound}
 use Rattle.otel_aggregate.specs.value_map.Contents.{known_of}

@@ -1,4 +1,4 @@
-use Rattle.std.proofs.Common.{nat_lt, ◌≡◌, ◌∙◌, ap, sym, subst, None}
+use Rattle.std.proofs.Common.{◌≡◌, ◌∙◌, ap, sym, subst, None}
 use Rattle.otel_aggregate.specs.value_map.Contents.{MapContents, IsSound, pending_in}
 use Rattle.otel_aggregate.specs.declared.value_map.pending.Pending.TheVariants.{Nothing}
 use Rattle.otel_aggregate.proofs.value_map.PlaceLemmas.{nothing-left}

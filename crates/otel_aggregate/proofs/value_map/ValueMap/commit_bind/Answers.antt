@@ -1,4 +1,4 @@
-use Rattle.std.proofs.Common.{nat_lt, ◌≡◌, ◌∙◌, ◌<◌, ◌-◌, ◌^◌, ap, sym, subst, refl, None, Some, true≢false}
+use Rattle.std.proofs.Common.{◌≡◌, ◌∙◌, ◌<◌, ◌-◌, ◌^◌, ap, sym, subst, refl, None, Some, true≢false}
 use Rattle.std.specs.Prelude.{IsSome}
 use Rattle.otel_model_stream.specs.Sets.{AttributeSet}
 use Rattle.otel_model_stream.specs.Entries.{entry_for}

@@ -2,7 +2,7 @@ use Rattle.std.proofs.Common.{◌≡◌, ◌∙◌, ◌++◌, List, Some, ap, sy
 use Rattle.otel_common.specs.Canonical.{canon}
 use Rattle.otel_common.specs.declared.attributes.KeyValue.{KeyValue}
 use Rattle.otel_model_stream.specs.Laws.{AreKnown}
-use Rattle.otel_model_stream.specs.Maps.{MapState, measured_map, measured_list, bound_to}
+use Rattle.otel_model_stream.specs.Maps.{MapState, measured_map, bound_to}
 use Rattle.otel_model_stream.specs.Sets.{AttributeSet}
 use Rattle.otel_model_stream.proofs.KnownLists.{known_measured}
 use Rattle.otel_aggregate.specs.value_map.Contents.{IsPlanAt, known_of}

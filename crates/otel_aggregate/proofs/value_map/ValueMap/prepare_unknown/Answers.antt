@@ -1,4 +1,4 @@
-use Rattle.std.proofs.Common.{◌≡◌, ◌∙◌, ◌&&◌, ◌||◌, not, cond, ap, sym, subst, refl, true, false, true≢false, Bool, ℕ, Option, Some, None, List, [], ◌∷◌, is_some, nat_lt}
+use Rattle.std.proofs.Common.{◌≡◌, ◌∙◌, ◌&&◌, ◌||◌, not, cond, ap, sym, subst, refl, true, false, true≢false, Bool, ℕ, Some, List, [], ◌∷◌, is_some, nat_lt}
 use Rattle.otel_common.specs.Canonical.{canon}
 use Rattle.otel_common.specs.Equality.{set_eq}
 use Rattle.otel_common.specs.declared.attributes.KeyValue.{KeyValue}
@@ -7,19 +7,29 @@ use Rattle.otel_model_stream.specs.Maps.{MapState, bound_to}
 use Rattle.otel_model_stream.specs.Sets.{AttributeSet, none_set, over_set}
 use Rattle.otel_aggregate.specs.value_map.Keyed.{Slotted}
 use Rattle.otel_aggregate.specs.value_map.Numbers.{Numbers, is_placed, spelling_of}
-use Rattle.otel_aggregate.specs.value_map.Contents.{MapContents, IsPlan, known_of, pending_in, used_by}
+use Rattle.otel_aggregate.specs.value_map.Contents.{MapContents, IsPlan, IsReady, is_there, known_of, pending_in, used_by}
 use Rattle.otel_aggregate.specs.declared.value_map.pending.Pending.{Pending}
 use Rattle.otel_aggregate.specs.declared.value_map.pending.Pending.TheVariants.{Nothing, At, New}
 use Rattle.otel_aggregate.proofs.value_map.CanonicalSets.{some-canon}
 use Rattle.otel_aggregate.proofs.value_map.PlaceLemmas.{used-bound}
-use Rattle.otel_aggregate.proofs.value_map.PlanLemmas.{sound-same, unknown-some, placed-has}
+use Rattle.otel_aggregate.proofs.value_map.PlanLemmas.{sound-same, unknown-some}
 use Rattle.otel_aggregate.proofs.value_map.ValueMap.prepare_unknown.Goals as goal
 
--- a list for which a new set is planned has no place
-new-unplaced : (t : Slotted) (few : Bool) (l : List KeyValue) (plan : Pending) → set_eq l none_set ≡ false → IsPlan t few l plan → ((n : ℕ) → plan ≡ At n → ⊥) → is_placed (canon l) t.table.entries ≡ false
-new-unplaced t few l Nothing some p other = let e = p.pending in absurd (cc)
-new-unplaced t few l (At n) some p other = absurd (other n refl)
-new-unplaced t few l (New set list) some p other = ap (λ b. b || has (canon l) t.table.entries) (some-canon l some) ∙ p.away refl
+-- where a new set is planned, the entry that is used isn't there
+new-away : (t : Slotted) (few : Bool) (l : List KeyValue) (plan : Pending) → set_eq l none_set ≡ false → IsPlan t few l plan → ((n : ℕ) → plan ≡ At n → ⊥) → is_there few (canon l) t.table.entries ≡ false
+new-away t few l Nothing some p other = let e = p.pending in absurd (cc)
+new-away t few l (At n) some p other = absurd (other n refl)
+new-away t few l (New set list) some p other = by few refl
+  where
+    gone : is_placed (canon l) t.table.entries ≡ false
+    gone = ap (λ b. b || has (canon l) t.table.entries) (some-canon l some) ∙ p.away refl
+
+    by : (b : Bool) → few ≡ b → is_there few (canon l) t.table.entries ≡ false
+    by true f = λ i. gone i || (not (f i) && has over_set t.table.entries)
+    by false f =
+        let ready : IsReady t few true set list = p.sound true refl in
+        let over : has over_set t.table.entries ≡ false = subst (λ x. has x t.table.entries ≡ false) (ready.past f) ready.absent in
+        λ i. gone i || (not (f i) && over i)
 
 pub invariant_of-self-2 : goal.invariant_of-self-2
 invariant_of-self-2 g c =
@@ -74,11 +84,11 @@ returns-in-At-clause-spelling g c =
 pub returns-in_err-make_ready-clause-placed : goal.returns-in_err-make_ready-clause-placed
 returns-in_err-make_ready-clause-placed g c =
     let few : Bool = nat_lt c.self.inside.count c.self.inside.limit in
-    let some : set_eq c.args.list.now.key none_set ≡ false = unknown-some c.args.list.now.key (known_of c.args.self.now) c.requires.unknown in
-    let away = new-unplaced c.self.inside.table few c.args.list.now.key c.in_ok-plan.plan some c.in_ok-plan.ensures.plan c.in_default.not-At in
-    rw (← c.self.view_is) (λ placed. absurd (true≢false (sym placed ∙ away)))
+    let l : List KeyValue = c.args.list.now.key in
+    let away = new-away c.self.inside.table few l c.in_ok-plan.plan (unknown-some l (known_of c.args.self.now) c.requires.unknown) c.in_ok-plan.ensures.plan c.in_default.not-At in
+    rw (← c.self.view_is) (λ there. absurd (true≢false (sym there ∙ ap (λ k. is_there (nat_lt k c.self.inside.limit) (canon l) c.self.inside.table.table.entries) (sym c.self.invariant.0) ∙ away)))
 
 pub returns-in_err-plan-clause-placed : goal.returns-in_err-plan-clause-placed
 returns-in_err-plan-clause-placed g c =
-    let some : set_eq c.args.list.now.key none_set ≡ false = unknown-some c.args.list.now.key (known_of c.args.self.now) c.requires.unknown in
-    rw (← c.self.view_is) (λ placed. absurd (true≢false (sym (c.in_err-plan.ensures.placed (placed-has c.args.list.now.key c.self.inside.table.table.entries some placed)))))
+    let l : List KeyValue = c.args.list.now.key in
+    rw (← c.self.view_is) (λ there. absurd (true≢false (sym (c.in_err-plan.ensures.there (ap (λ k. is_there (nat_lt k c.self.inside.limit) (canon l) c.self.inside.table.table.entries) c.self.invariant.0 ∙ there)))))

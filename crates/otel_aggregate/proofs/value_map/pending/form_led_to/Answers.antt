@@ -1,4 +1,4 @@
-use Rattle.std.proofs.Common.{ℕ, ◌≡◌, ◌∙◌, ◌||◌, Bool, List, [], ◌∷◌, Option, None, Some, true, false, sym, subst, refl, ap, true≢false}
+use Rattle.std.proofs.Common.{ℕ, ◌≡◌, ◌∙◌, ◌||◌, Bool, List, [], ◌∷◌, Option, None, Some, is_some, true, false, sym, subst, refl, ap, true≢false}
 use Rattle.std.specs.Option.{IfNone, option_copied}
 use Rattle.otel_common.specs.Canonical.{canon}
 use Rattle.otel_common.specs.Equality.{set_eq}
@@ -18,19 +18,30 @@ some-there : (l : List KeyValue) → set_eq (canon l) [] ≡ false → set_eq l 
 some-there [] e = absurd (true≢false (sym (ap (λ s. set_eq s []) canon-nil) ∙ e))
 some-there (p ∷ l) e = refl
 
-both-not : (o : Option ℕ) (a b : Bool) → a ≡ false → IfNone o (b ≡ false) → IfNone o ((a || b) ≡ false)
-both-not None a b e h = ap (λ x. x || b) e ∙ h
-both-not (Some n) a b e h = tt
-
 pub is_form_of-requires : goal.is_form_of-requires
 is_form_of-requires g c = canon-nil
 
 pub returns-then-is_form_of-clause-plan : goal.returns-then-is_form_of-clause-plan
-returns-then-is_form_of-clause-plan g c few =
+returns-then-is_form_of-clause-plan g c =
     let l : List KeyValue = allowed_part (option_copied c.args.allow) c.args.attributes.now in
-    subst (λ n. IsPlan c.args.table.now few l (At n)) (sym c.none.ensures.number) (plan-empty c.args.table.now few l (none-there l (sym c.is_form_of.ensures ∙ c.if-is_form_of.true)))
+    subst (λ n. IsPlan c.args.table.now c.args.few l (At n)) (sym c.none.ensures.number) (plan-empty c.args.table.now c.args.few l (none-there l (sym c.is_form_of.ensures ∙ c.if-is_form_of.true)))
+
+-- nothing that is found leads there
+unled : (o another : Option ℕ) (a b : Bool) → a ≡ false → is_some o ≡ false → IfNone o (b ≡ false) → IfNone another ((a || b) ≡ false)
+unled None None a b e gone h = ap (λ x. x || b) e ∙ h
+unled None (Some n) a b e gone h = tt
+unled (Some m) another a b e gone h = absurd (true≢false gone)
+
+alike : (o : Option ℕ) (a b : Bool) → a ≡ false → IfNone o (b ≡ false) → IfNone o ((a || b) ≡ false)
+alike None a b e h = unled None None a b e refl h
+alike (Some n) a b e h = tt
+
+pub returns-then-few-clause-unled : goal.returns-then-few-clause-unled
+returns-then-few-clause-unled g c =
+    let l : List KeyValue = allowed_part (option_copied c.args.allow) c.args.attributes.now in
+    alike c.find_form-found.result _ _ (some-there l (sym c.is_form_of.ensures ∙ c.if-is_form_of.false)) c.find_form-found.ensures.unknown
 
 pub returns-clause-unled : goal.returns-clause-unled
 returns-clause-unled g c =
     let l : List KeyValue = allowed_part (option_copied c.args.allow) c.args.attributes.now in
-    both-not c.find_form.result _ _ (some-there l (sym c.is_form_of.ensures ∙ c.if-is_form_of.false)) c.find_form.ensures.unknown
+    unled c.find_form-found.result c.overflow.result _ _ (some-there l (sym c.is_form_of.ensures ∙ c.if-is_form_of.false)) (sym c.is_some.ensures ∙ c.if-is_some.false) c.find_form-found.ensures.unknown

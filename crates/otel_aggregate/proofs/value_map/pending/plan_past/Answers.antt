@@ -1,8 +1,4 @@
-use Rattle.std.proofs.Common.{◌≡◌, ◌∙◌, ap, sym, None}
-use Rattle.std.specs.Map.{lookup}
-use Rattle.otel_common.specs.Equality.{set_eq}
-use Rattle.otel_model_stream.specs.Sets.{over_set}
-use Rattle.otel_model_stream.specs.Entries.{has}
+use Rattle.std.proofs.Common.{◌∙◌, sym}
 use Rattle.otel_aggregate.proofs.value_map.PlanLemmas.{plan-over, plan-over_new}
 use Rattle.otel_aggregate.proofs.value_map.pending.plan_past.Goals as goal
 

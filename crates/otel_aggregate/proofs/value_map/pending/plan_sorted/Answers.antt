@@ -6,15 +6,30 @@ use Rattle.otel_model_stream.specs.Sets.{AttributeSet}
 use Rattle.otel_model_stream.specs.Entries.{has}
 use Rattle.otel_aggregate.specs.value_map.Contents.{IsPlan}
 use Rattle.otel_aggregate.specs.declared.value_map.pending.Pending.TheVariants.{New}
-use Rattle.otel_aggregate.proofs.value_map.PlanLemmas.{past-planned, plan-admitted}
+use Rattle.otel_aggregate.proofs.value_map.PlanLemmas.{past-planned, past-there, none-there, plan-admitted}
 use Rattle.otel_aggregate.proofs.value_map.pending.plan_sorted.Goals as goal
 
 pub returns-then-not-few-clause-plan : goal.returns-then-not-few-clause-plan
 returns-then-not-few-clause-plan g c =
     past-planned c.args.table.now c.args.few c.args.list.now.key c.plan_past.result (search rules) c.requires.unled (ap (λ (s : AttributeSet). has s c.args.table.now.table.entries) (sym c.requires.sorted) ∙ sym c.in_default.ensures.placed) c.plan_past.ensures.plan
 
-pub returns-then-not-few-clause-placed : goal.returns-then-not-few-clause-placed
-returns-then-not-few-clause-placed g c placed = absurd (true≢false (sym placed ∙ ap (λ (s : AttributeSet). has s c.args.table.now.table.entries) (sym c.requires.sorted) ∙ sym c.in_default.ensures.placed))
+pub returns-then-not-few-clause-there : goal.returns-then-not-few-clause-there
+returns-then-not-few-clause-there g c there =
+    let t = c.args.table.now in
+    let away : has (canon c.args.list.now.key) t.table.entries ≡ false = ap (λ (s : AttributeSet). has s t.table.entries) (sym c.requires.sorted) ∙ sym c.in_default.ensures.placed in
+    c.plan_past.ensures.there (sym (past-there t c.args.list.now.key c.requires.unled away c.args.few (search rules)) ∙ there)
+
+pub returns-in_err-set-clause-there : goal.returns-in_err-set-clause-there
+returns-in_err-set-clause-there g c there =
+    let t = c.args.table.now in
+    let away : has (canon c.args.list.now.key) t.table.entries ≡ false = ap (λ (s : AttributeSet). has s t.table.entries) (sym c.requires.sorted) ∙ sym c.in_default.ensures.placed in
+    absurd (true≢false (sym there ∙ none-there t c.args.list.now.key c.requires.unled away c.args.few (search rules)))
+
+pub returns-in_err-key-clause-there : goal.returns-in_err-key-clause-there
+returns-in_err-key-clause-there g c there =
+    let t = c.args.table.now in
+    let away : has (canon c.args.list.now.key) t.table.entries ≡ false = ap (λ (s : AttributeSet). has s t.table.entries) (sym c.requires.sorted) ∙ sym c.in_default.ensures.placed in
+    absurd (true≢false (sym there ∙ none-there t c.args.list.now.key c.requires.unled away c.args.few (search rules)))
 
 pub returns-clause-plan : goal.returns-clause-plan
 returns-clause-plan g c =

@@ -2,7 +2,6 @@ use Rattle.std.proofs.Common.{ℕ, ◌≡◌, ◌∙◌, ◌≤◌, ◌<◌, ◌
 use Rattle.otel_common.specs.Equality.{set_eq, bytes_eq, value_eq}
 use Rattle.otel_common.specs.declared.attributes.KeyValue.{KeyValue}
 use Rattle.otel_common.specs.declared.attributes.Value.TheVariants as value
-use Rattle.otel_model_stream.specs.Sets.{over_set}
 use Rattle.otel_aggregate.proofs.value_map.sets.is_overflow.Goals as goal
 
 -- a list of one attribute

@@ -1,6 +1,5 @@
 use Rattle.std.proofs.Common.{◌∙◌, ap, sym, List, ◌∷◌, [], ◌++◌, Some}
 use Rattle.std.specs.Option.{option_or}
-use Rattle.std.specs.Bool.{then_some}
 use Rattle.otel_aggregate.specs.value_map.Keyed.{Slotted, IsNew, IsSpelling}
 use Rattle.otel_aggregate.specs.value_map.Slots.{look_in, kept_of, Keyed, table_at, entry_of}
 use Rattle.otel_aggregate.proofs.value_map.AddLemmas.{kept-added, table-added, over-pushed}
