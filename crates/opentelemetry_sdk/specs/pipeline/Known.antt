@@ -1,18 +1,26 @@
--- Attributes whose sets have entries, so that a record of them is never refused for lack of memory.
-use Rattle.std.specs.Prelude.{◌≡◌, ℕ, Bool, true, ◌&&◌, ◌||◌, List, [], Option, None, Some, slice_get}
+-- Attributes whose record makes no entry, so that it is never refused for lack of memory.
+use Rattle.std.specs.Prelude.{◌≡◌, ℕ, nat_lt, Bool, true, not, ◌&&◌, ◌||◌, List, [], Option, None, Some, slice_get}
 use Rattle.std.specs.List.{list_any, list_all}
 use Rattle.otel_common.specs.Equality.{set_eq}
 use Rattle.otel_common.specs.declared.attributes.KeyValue.{KeyValue}
-use Rattle.otel_model_stream.specs.Entries.{has}
-use Rattle.otel_model_stream.specs.Sets.{none_set, set_of}
+use Rattle.otel_model_stream.specs.Entries.{Entry, has, number_counted}
+use Rattle.otel_model_stream.specs.Sets.{AttributeSet, none_set, over_set, set_of}
 use Rattle.otel_model.specs.Calls.{or_else}
 use Rattle.otel_model.specs.Demands.{Identity, identity_eq}
 use Rattle.otel_model.specs.State.{Stream, ReaderPart}
 use Rattle.opentelemetry_sdk.specs.pipeline.Streams.{StreamContents}
 
--- whether the stream knows the attributes: their set has an entry, or is the empty one
+-- whether the overflow entry is there and takes what has no entry, since the limit is reached
+abbrev pub overflows : ℕ → List Entry → Bool
+overflows limit es = not (nat_lt (number_counted es) limit) && has over_set es
+
+-- whether a record of the set makes no entry: it is the empty one, or has an entry, or goes to the overflow entry
+abbrev pub is_known_in : AttributeSet → ℕ → List Entry → Bool
+is_known_in s limit es = (set_eq s none_set || has s es) || overflows limit es
+
+-- whether the stream knows the attributes
 abbrev pub is_known_to : List KeyValue → Stream → Bool
-is_known_to l q = set_eq (set_of q.demand.allow l) none_set || has (set_of q.demand.allow l) q.machine.table.entries
+is_known_to l q = is_known_in (set_of q.demand.allow l) q.demand.limit q.machine.table.entries
 
 -- whether there is a stream with this identity that knows them
 abbrev pub is_known_by : List KeyValue → List Stream → Identity → Bool

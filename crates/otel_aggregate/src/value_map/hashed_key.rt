@@ -213,6 +213,13 @@ impl OwnedSet {
         self.set.as_slice()
     }
 
+    /// Whether another set has the same attributes in the same order.
+    pub fn is_same(&self, other: &OwnedSet) -> bool
+        ensures { result ≡ set_eq self.now other.now }
+    {
+        same_lists(self.set.as_slice(), other.set.as_slice())
+    }
+
     /// The set as a key with the hash of this hasher.
     pub(crate) fn into_key(self, hasher: SetHashBuilder) -> HashedKey
         ensures hashed { IsHashedBy hasher result }
