@@ -1,8 +1,8 @@
 -- Handles that are held for a while, so that measurements of their series go through them.
 use Rattle.std.proofs.Common.{◌≡◌, ℕ, ◌+◌, ◌==◌, List, [], ◌∷◌, ◌++◌, map, Bool, true, false, cond, Option, Some, None, refl, sym, ap, ◌∙◌, subst, append_assoc, true≢false, ◌-◌, ◌||◌, arith, eq-eqb, ne_eqb, eqb-true}
 use Rattle.std.specs.List.{AllByRecursion as EachOf}
+use Rattle.std.proofs.lemmas.Bool.{or_parts}
 use Rattle.std.proofs.lemmas.List.{append-nil}
-use Rattle.otel_common.specs.Equality.{set_eq}
 use Rattle.otel_common.specs.declared.attributes.KeyValue.{KeyValue}
 use Rattle.otel_model_stream.specs.Sets.{AttributeSet}
 use Rattle.otel_model_stream.specs.Folds.{Aggregate, Sample, wrap, empty_of, sample_of}
@@ -18,9 +18,12 @@ use Rattle.otel_model.specs.Sent.{is_fed, set_for}
 use Rattle.otel_model.specs.State.{Stream, ReaderPart}
 use Rattle.otel_model.specs.Streams.{aggregate_of, kind_of}
 use Rattle.otel_model.specs.Temporary.{Temporary, has_handle, found, AreDistinct, taken, reaches, with_goal, goals, stream_with, IsSettled, AreIn, parts_with, AreInParts, AreUnheld}
+use Rattle.otel_model.proofs.Amounts.{each_map, each_push}
+use Rattle.otel_model.proofs.Single.{some_is}
 use Rattle.otel_model.proofs.Unheld.{record_keeps}
+use Rattle.otel_model.proofs.batches.Providers.{map_rests, each_any}
 use Rattle.otel_model.proofs.batches.Writes.{write-keeps}
-use Rattle.otel_model.proofs.batches.Tables.{Keeps, is_there, there-on, entry_for-on, settled-on, settled_stays, settled_rests, settled_once, entry_stays, settled_there, apart_table}
+use Rattle.otel_model.proofs.batches.Tables.{Keeps, is_of-on, is_there, there-on, entry_for-on, settled-on, settled_stays, settled_rests, settled_once, entry_stays, settled_there, apart_table}
 
 -- ======== one table ========
 -- the entry of each of these is there
@@ -50,13 +53,6 @@ place-taken limit σ s (p ∷ ps) t all =
     ∙ ap (taken ps) (apart_table limit (empty_of σ) s p.1 take_handle take-keeps t all.0)
 
 -- a write, and one more handle
-is_of-on : (a b : AttributeSet) (f : Entry → Entry) → Keeps f → (e : Entry) → is_of a (on b f e) ≡ is_of a e
-is_of-on a b f k e = go (is_of b e)
-  where
-    go : (c : Bool) → is_of a (cond c (f e) e) ≡ is_of a e
-    go true = ap (λ s. set_eq s a) (k.set e)
-    go false = refl
-
 write-take-entry : (a b : AttributeSet) (v : Sample) (e : Entry) → on a (write v) (on b take_handle e) ≡ on b take_handle (on a (write v) e)
 write-take-entry a b v e =
     (λ i. cond (is_of-on a b take_handle take-keeps e i) (write v (on b take_handle e)) (on b take_handle e))
@@ -130,13 +126,6 @@ without-last h g (p ∷ ps) e = go (p.0 == h) e (without-last h g ps)
     go false e rest = ap (λ qs. p ∷ qs) (rest e)
 
 -- ======== one stream ========
-neither : (a b : Bool) → (a || b) ≡ false → (a ≡ false) × (b ≡ false)
-neither true b e = absurd (true≢false e)
-neither false b e = (refl, e)
-
-some_is : {X : Type 0} (x y : X) → Some x ≡ Some y → x ≡ y
-some_is x y e = cc
-
 found-handle : (h : ℕ) (ts : List Temporary) (t : Temporary) → found h ts ≡ Some t → t.handle ≡ h
 found-handle h [] t e = absurd (cc)
 found-handle h (x ∷ ts) t e = go (x.handle == h) refl e (found-handle h ts t)
@@ -155,21 +144,17 @@ found-in P h (x ∷ ts) t all e = go (x.handle == h) e (found-in P h ts t all.1)
 
 found-last : (ts : List Temporary) (t : Temporary) → has_handle t.handle ts ≡ false → found t.handle (ts ++ t ∷ []) ≡ Some t
 found-last [] t e = ap (λ c. cond c (Some t) None) (eq-eqb t.handle t.handle refl)
-found-last (x ∷ ts) t e = let both = neither (x.handle == t.handle) (has_handle t.handle ts) e in ap (λ c. cond c (Some x) (found t.handle (ts ++ t ∷ []))) both.0 ∙ found-last ts t both.1
+found-last (x ∷ ts) t e = let both = or_parts (x.handle == t.handle) (has_handle t.handle ts) e in ap (λ c. cond c (Some x) (found t.handle (ts ++ t ∷ []))) both.0 ∙ found-last ts t both.1
 
 has-append : (h : ℕ) (ts : List Temporary) (t : Temporary) → has_handle h ts ≡ false → (t.handle == h) ≡ false → has_handle h (ts ++ t ∷ []) ≡ false
 has-append h [] t e f = ap (λ c. c || false) f
-has-append h (x ∷ ts) t e f = let both = neither (x.handle == h) (has_handle h ts) e in (λ i. both.0 i || has-append h ts t both.1 f i)
+has-append h (x ∷ ts) t e f = let both = or_parts (x.handle == h) (has_handle h ts) e in (λ i. both.0 i || has-append h ts t both.1 f i)
 
 pub distinct-append : (ts : List Temporary) (t : Temporary) → AreDistinct ts → has_handle t.handle ts ≡ false → AreDistinct (ts ++ t ∷ [])
 distinct-append [] t all e = (refl, tt)
 distinct-append (x ∷ ts) t all e =
-    let both = neither (x.handle == t.handle) (has_handle t.handle ts) e in
+    let both = or_parts (x.handle == t.handle) (has_handle t.handle ts) e in
     (has-append x.handle ts t all.0 (ne_eqb t.handle x.handle (λ q. true≢false (sym (eq-eqb x.handle t.handle (sym q)) ∙ both.0))), distinct-append ts t all.1 both.1)
-
-each-append : (P : Temporary → Type 0) (ts : List Temporary) (t : Temporary) → EachOf P ts → P t → EachOf P (ts ++ t ∷ [])
-each-append P [] t all is = (is, tt)
-each-append P (x ∷ ts) t all is = (all.0, each-append P ts t all.1 is)
 
 module _ (feeds : List (List Identity)) where
   abbrev goal : Temporary → Stream → AttributeSet
@@ -193,7 +178,7 @@ module _ (feeds : List (List Identity)) where
 
   unheld-goals : (h : ℕ) (ts : List Temporary) (q : Stream) → has_handle h ts ≡ false → held_by h (goals feeds ts q) ≡ None
   unheld-goals h [] q e = refl
-  unheld-goals h (t ∷ ts) q e = let both = neither (t.handle == h) (has_handle h ts) e in go (reaches feeds t q) both.0 (unheld-goals h ts q both.1)
+  unheld-goals h (t ∷ ts) q e = let both = or_parts (t.handle == h) (has_handle h ts) e in go (reaches feeds t q) both.0 (unheld-goals h ts q both.1)
     where
       go : (b : Bool) → (t.handle == h) ≡ false → held_by h (goals feeds ts q) ≡ None → held_by h (with_goal feeds b t q (goals feeds ts q)) ≡ None
       go true e rest = ap (λ c. cond c (Some (goal t q)) (held_by h (goals feeds ts q))) e ∙ rest
@@ -446,7 +431,7 @@ module _ (feeds : List (List Identity)) where
         × AreIn feeds (ts ++ t ∷ []) (stream_after answers feeds next (Record t.instrument v t.list) q)
     first-stream next v ts t q apart all new unheld =
         let placed : Stream = placed_if (reaches feeds t q) t.list q in
-        let more : AreIn feeds (ts ++ t ∷ []) placed = each-append (λ (x : Temporary). IsSettled feeds x placed × (held_by x.handle placed.machine.live ≡ None)) ts t (in-placed ts (reaches feeds t q) t.list q all) (placed-here t q, live-placed t.handle (reaches feeds t q) t.list q unheld) in
+        let more : AreIn feeds (ts ++ t ∷ []) placed = each_push (λ (x : Temporary). IsSettled feeds x placed × (held_by x.handle placed.machine.live ≡ None)) ts t (in-placed ts (reaches feeds t q) t.list q all) (placed-here t q, live-placed t.handle (reaches feeds t q) t.list q unheld) in
         let once : stream_after answers feeds next (Record t.instrument v t.list) placed ≡ stream_after answers feeds next (Record t.instrument v t.list) q = placed-once next t.instrument v t.list q in (
           ap (stream_after answers feeds next (RecordBound t.handle v)) (bound-stream ts t q all)
               ∙ (held-stream next t.handle v (ts ++ t ∷ []) t placed (distinct-append ts t apart new) more (found-last ts t new)
@@ -497,21 +482,9 @@ module _ {X : Type 0} where
   map-map-same P f g h k e [] all = refl
   map-map-same P f g h k e (x ∷ xs) all = λ i. e x all.0 i ∷ map-map-same P f g h k e xs all.1 i
 
-  map-same : (P : X → Type 0) (f : X → X) → ((x : X) → P x → f x ≡ x) → (xs : List X) → EachOf P xs → map f xs ≡ xs
-  map-same P f e [] all = refl
-  map-same P f e (x ∷ xs) all = λ i. e x all.0 i ∷ map-same P f e xs all.1 i
-
-  each-map : (P Q : X → Type 0) (f : X → X) → ((x : X) → P x → Q (f x)) → (xs : List X) → EachOf P xs → EachOf Q (map f xs)
-  each-map P Q f e [] all = tt
-  each-map P Q f e (x ∷ xs) all = (e x all.0, each-map P Q f e xs all.1)
-
   each-both : (P Q : X → Type 0) (xs : List X) → EachOf P xs → EachOf Q xs → EachOf (λ x. P x × Q x) xs
   each-both P Q [] p q = tt
   each-both P Q (x ∷ xs) p q = ((p.0, q.0), each-both P Q xs p.1 q.1)
-
-  each-any : (xs : List X) → EachOf (λ x. Unit {0}) xs
-  each-any [] = tt
-  each-any (x ∷ xs) = (tt, each-any xs)
 
 -- what holds of each stream of each part
 module _ (P : List (List Identity) → Stream → Type 0) (f g h k : ReaderAnswers → List (List Identity) → Stream → Stream) where
@@ -526,17 +499,17 @@ module _ (P : List (List Identity) → Stream → Type 0) (f g h k : ReaderAnswe
 module _ (P Q : List (List Identity) → Stream → Type 0) (f : ReaderAnswers → List (List Identity) → Stream → Stream) where
   parts-each : ((a : ReaderAnswers) (feeds : List (List Identity)) (q : Stream) → P feeds q → Q feeds (f a feeds q)) → (ps : List ReaderPart)
       → EachOf (λ (p : ReaderPart). EachOf (P p.feeds) p.streams) ps → EachOf (λ (p : ReaderPart). EachOf (Q p.feeds) p.streams) (map (λ (p : ReaderPart). record p { streams = map (f p.answers p.feeds) p.streams }) ps)
-  parts-each e ps all = each-map (λ (p : ReaderPart). EachOf (P p.feeds) p.streams) (λ (p : ReaderPart). EachOf (Q p.feeds) p.streams) (λ (p : ReaderPart). record p { streams = map (f p.answers p.feeds) p.streams })
-      (λ p one. each-map (P p.feeds) (Q p.feeds) (f p.answers p.feeds) (e p.answers p.feeds) p.streams one) ps all
+  parts-each e ps all = each_map (λ (p : ReaderPart). EachOf (P p.feeds) p.streams) (λ (p : ReaderPart). EachOf (Q p.feeds) p.streams) (λ (p : ReaderPart). record p { streams = map (f p.answers p.feeds) p.streams }) ps
+      (λ p. each_map (P p.feeds) (Q p.feeds) (f p.answers p.feeds) p.streams (e p.answers p.feeds)) all
 
 -- ======== records with them ========
 -- none are held
 pub with-none : (ps : List ReaderPart) → parts_with [] ps ≡ ps
-with-none ps = map-same (λ p. Unit {0}) (λ (p : ReaderPart). record p { streams = map (stream_with p.feeds []) p.streams }) (λ p u i. record p { streams = map-same (λ q. Unit {0}) (stream_with p.feeds []) (λ q u j. record q { machine = record q.machine { live = append-nil q.machine.live j } }) p.streams (each-any p.streams) i }) ps (each-any ps)
+with-none ps = map_rests (λ p. Unit {0}) (λ (p : ReaderPart). record p { streams = map (stream_with p.feeds []) p.streams }) (λ p u i. record p { streams = map_rests (λ q. Unit {0}) (stream_with p.feeds []) (λ q u j. record q { machine = record q.machine { live = append-nil q.machine.live j } }) p.streams (each_any p.streams) i }) ps (each_any ps)
 
 pub in-none : (ps : List ReaderPart) → AreInParts [] ps
 in-none [] = tt
-in-none (p ∷ ps) = (each-any p.streams, in-none ps)
+in-none (p ∷ ps) = (each_any p.streams, in-none ps)
 
 -- a record, of whatever series
 pub with-record : (n : ℕ) (v : Number) (l : List KeyValue) (ts : List Temporary) (ps : List ReaderPart) → AreInParts ts ps
@@ -566,8 +539,8 @@ with-first v ts t ps apart all new unheld = go ps all unheld
     one p all none =
         let both = each-both (AreIn p.feeds ts) (λ (q : Stream). held_by t.handle q.machine.live ≡ None) p.streams all none in (
           (λ i. record p { streams = map-three p.streams both i }),
-          each-map (λ (q : Stream). AreIn p.feeds ts q × (held_by t.handle q.machine.live ≡ None)) (AreIn p.feeds (ts ++ t ∷ [])) (stream_after p.answers p.feeds 0 (Record t.instrument v t.list))
-              (λ q h. (first-stream p.feeds p.answers 0 v ts t q apart h.0 new h.1).1) p.streams both,
+          each_map (λ (q : Stream). AreIn p.feeds ts q × (held_by t.handle q.machine.live ≡ None)) (AreIn p.feeds (ts ++ t ∷ [])) (stream_after p.answers p.feeds 0 (Record t.instrument v t.list)) p.streams
+              (λ q h. (first-stream p.feeds p.answers 0 v ts t q apart h.0 new h.1).1) both,
         )
       where
         map-three : (qs : List Stream) → EachOf (λ (q : Stream). AreIn p.feeds ts q × (held_by t.handle q.machine.live ≡ None)) qs

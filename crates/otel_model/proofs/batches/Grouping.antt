@@ -2,7 +2,7 @@
 -- the writes only their laws are known.
 use Rattle.std.proofs.Common.{◌≡◌, ⊎_elim, ℕ, nat_eq, Bool, true, false, List, [], ◌∷◌, ◌++◌, map, fold, cond, ◌||◌, refl, sym, ap, ◌∙◌, subst}
 use Rattle.std.specs.Prelude.{◌==◌, filter}
-use Rattle.std.proofs.lemmas.Bool.{eqb-true, eq-eqb, true≢false, false≢true, or_cases, or_parts}
+use Rattle.std.proofs.lemmas.Bool.{eqb-true, eq-eqb, true≢false, false≢true, false_from_ne_true, or_cases, or_parts}
 use Rattle.otel_model_stream.specs.Totals.{has_number}
 use Rattle.otel_model.specs.Batches.{firsts, occurs, lasts_of, values_of, values_each}
 
@@ -30,11 +30,7 @@ grouped write gs x = fold (λ x g. writes_of write g.0 g.1 x) x gs
 
 -- ======== series in order of last records ========
 other_way : (m n : ℕ) → nat_eq m n ≡ false → nat_eq n m ≡ false
-other_way m n e = go (nat_eq n m) refl
-  where
-    go : (b : Bool) → nat_eq n m ≡ b → b ≡ false
-    go true f = absurd (true≢false (sym (eq-eqb m n (sym (eqb-true n m f))) ∙ e))
-    go false f = refl
+other_way m n e = false_from_ne_true (nat_eq n m) (λ f. true≢false (sym (eq-eqb m n (sym (eqb-true n m f))) ∙ e))
 
 -- no number stands twice
 abbrev AreApart : List ℕ → Type 0

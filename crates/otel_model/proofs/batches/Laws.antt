@@ -1,5 +1,5 @@
 -- A batch of records that have no fault does what they do one by one.
-use Rattle.std.proofs.Common.{◌≡◌, ℕ, zero, suc, List, [], ◌∷◌, map, length, Bool, true, false, cond, Option, Some, None, refl, sym, ap, ◌∙◌, subst}
+use Rattle.std.proofs.Common.{◌≡◌, ℕ, zero, suc, List, [], ◌∷◌, map, fold, length, Bool, true, false, cond, Option, Some, None, refl, sym, ap, ◌∙◌, subst}
 use Rattle.std.specs.Prelude.{◌==◌, slice_get}
 use Rattle.std.specs.List.{AllByRecursion as EachOf}
 use Rattle.std.proofs.lemmas.Bool.{true≢false, or_left, or_right}
@@ -24,7 +24,7 @@ use Rattle.otel_model.specs.Refusals.{refusal, record_refusal, held_refusal, han
 use Rattle.otel_model.specs.Steps.{reply_by, after_by, reply_of}
 use Rattle.otel_model.specs.Machine.{changed_at, instrument_after_record, accepted_by, accepted_after}
 use Rattle.otel_model.specs.Lawful.{IsLawful, IsOfEvents, PartIsLawful}
-use Rattle.otel_model.specs.Batches.{firsts, firsts_of, values_each, calls_of, placed_each, written_all, written_each, batch_after, IsDone, AreDone, AreAccepted, BatchesGroup, RefusalsStay, FirstsOfBeginning}
+use Rattle.otel_model.specs.Batches.{firsts, firsts_of, values_each, calls_of, placed_each, written_all, batch_after, IsDone, AreDone, AreAccepted, BatchesGroup, RefusalsStay, FirstsOfBeginning}
 use Rattle.otel_model.specs.Places.{Series, Listed, Held, call_at, instrument_at, placed_in, written_in}
 use Rattle.otel_model.proofs.Amounts.{each_weaker}
 use Rattle.otel_model.proofs.Single.{some_is}
@@ -99,6 +99,11 @@ fault_written s v (Held h) w st = go (instrument_held h st.shared.live)
 fault_made : (s : Series) (v : Number) (t : Series) (w : Number) (st : State) → fault_of t w (written_in s v (placed_in s st)) ≡ fault_of t w st
 fault_made s v t w st = fault_written s v t w (placed_in s st) ∙ fault_placed s t w st
 
+-- changes of which each leaves what is read
+left_by : {X A C : Type 0} (read : X → A) (step : X → C → X) → ((c : C) (x : X) → read (step x c) ≡ read x) → (cs : List C) (x : X) → read (fold step x cs) ≡ read x
+left_by read step e [] x = refl
+left_by read step e (c ∷ cs) x = left_by read step e cs (step x c) ∙ e c x
+
 -- ======== records one by one ========
 module _ (series : ℕ → Series) where
   accepted_still : (s : Series) (v : Number) (st : State) (rs : List (ℕ × Number)) → AreAccepted st (calls_of series rs) → AreAccepted (written_in s v (placed_in s st)) (calls_of series rs)
@@ -122,24 +127,17 @@ module _ (series : ℕ → Series) where
   batch_is : (rs : List (ℕ × Number)) (st : State) → IsLawful st → records (placing series) (writing series) rs st ≡ batch_after series rs st
   batch_is rs st lawful = batch_law series rs st (lawful_there st lawful)
 
-  fault_each : (t : Series) (w : Number) (ns : List ℕ) (st : State) → fault_of t w (placed_each series ns st) ≡ fault_of t w st
-  fault_each t w [] st = refl
-  fault_each t w (n ∷ ns) st = fault_each t w ns (placed_in (series n) st) ∙ fault_placed (series n) t w st
-
-  fault_all : (s t : Series) (w : Number) (vs : List Number) (st : State) → fault_of t w (written_all s vs st) ≡ fault_of t w st
-  fault_all s t w [] st = refl
-  fault_all s t w (v ∷ vs) st = fault_all s t w vs (written_in s v st) ∙ fault_written s v t w st
-
-  fault_groups : (t : Series) (w : Number) (gs : List (ℕ × List Number)) (st : State) → fault_of t w (written_each series gs st) ≡ fault_of t w st
-  fault_groups t w [] st = refl
-  fault_groups t w (g ∷ gs) st = fault_groups t w gs (written_all (series g.0) g.1 st) ∙ fault_all (series g.0) t w g.1 st
-
 -- ======== the laws ========
 pub groups_law : BatchesGroup
 groups_law series st rs lawful accepted = subst (AreDone st (calls_of series rs)) (batch_is series rs st lawful) (done_all series rs st accepted)
 
 pub refusals_law : RefusalsStay
-refusals_law series st rs s v = fault_groups series s v (values_each rs) (placed_each series (firsts_of rs) st) ∙ fault_each series s v (firsts_of rs) st
+refusals_law series st rs t w =
+    left_by fault (λ st g. written_all (series g.0) g.1 st) (λ g. left_by fault (λ st v. written_in (series g.0) v st) (λ v. fault_written (series g.0) v t w) g.1) (values_each rs) (placed_each series (firsts_of rs) st)
+    ∙ left_by fault (λ st n. placed_in (series n) st) (λ n. fault_placed (series n) t w) (firsts_of rs) st
+  where
+    fault : State → Option Fault
+    fault st = fault_of t w st
 
 pub firsts_law : FirstsOfBeginning
 firsts_law rs later =

@@ -42,7 +42,7 @@ streams_where : (P Q : List (List Identity) → Stream → Type 0) (f g : Change
 streams_where P Q f g e ps h k = map_where (λ (p : ReaderPart). EachOf (P p.feeds) p.streams) (λ (p : ReaderPart). EachOf (Q p.feeds) p.streams) (changed f) (changed g)
     (λ p a b i. record p { streams = map_where (P p.feeds) (Q p.feeds) (f p.feeds) (g p.feeds) (e p.feeds) p.streams a b i }) ps h k
 
-map_rests : {X : Type 0} (P : X → Type 0) (f : X → X) → ((x : X) → P x → f x ≡ x) → (xs : List X) → EachOf P xs → map f xs ≡ xs
+pub map_rests : {X : Type 0} (P : X → Type 0) (f : X → X) → ((x : X) → P x → f x ≡ x) → (xs : List X) → EachOf P xs → map f xs ≡ xs
 map_rests P f e [] h = refl
 map_rests P f e (x ∷ xs) h = λ i. e x h.0 i ∷ map_rests P f e xs h.1 i
 
@@ -51,14 +51,14 @@ streams_keep : (P Q : List (List Identity) → Stream → Type 0) (f : Change) �
 streams_keep P Q f e ps h = each_map (λ (p : ReaderPart). EachOf (P p.feeds) p.streams) (λ (p : ReaderPart). EachOf (Q p.feeds) p.streams) (changed f) ps
     (λ p k. each_map (P p.feeds) (Q p.feeds) (f p.feeds) p.streams (e p.feeds) k) h
 
-each_made : {X : Type 0} (P : X → Type 0) (f : X → X) → ((x : X) → P (f x)) → (xs : List X) → EachOf P (map f xs)
-each_made P f e [] = tt
-each_made P f e (x ∷ xs) = (e x, each_made P f e xs)
+pub each_any : {X : Type 0} (xs : List X) → EachOf (λ x. Unit {0}) xs
+each_any [] = tt
+each_any (x ∷ xs) = (tt, each_any xs)
 
 -- ======== having places ========
 once : (s : Series) (st : State) → HasPlaces s (placed_in s st)
-once s st = each_made (λ (p : ReaderPart). EachOf (IsPlaced p.feeds s) p.streams) (changed (λ feeds. stream_placed feeds s))
-    (λ p. each_made (IsPlaced p.feeds s) (stream_placed p.feeds s) (placed_once p.feeds s) p.streams) st.readers
+once s st = each_map (λ p. Unit {0}) (λ (p : ReaderPart). EachOf (IsPlaced p.feeds s) p.streams) (changed (λ feeds. stream_placed feeds s)) st.readers
+    (λ p a. each_map (λ q. Unit {0}) (IsPlaced p.feeds s) (stream_placed p.feeds s) p.streams (λ q b. placed_once p.feeds s q) (each_any p.streams)) (each_any st.readers)
 
 stays : (s t : Series) (st : State) → HasPlaces s st → HasPlaces s (placed_in t st)
 stays s t st h = streams_keep (λ feeds. IsPlaced feeds s) (λ feeds. IsPlaced feeds s) (λ feeds. stream_placed feeds t) (λ feeds q k. placed_stays feeds s t q k) st.readers h

@@ -5,7 +5,7 @@ use Rattle.otel_common.specs.declared.attributes.KeyValue.{KeyValue}
 use Rattle.otel_model_stream.specs.Sets.{AttributeSet}
 use Rattle.otel_model_stream.specs.Folds.{Amount, Fold, Sample, wrap, empty_of, sample_of}
 use Rattle.otel_model_stream.specs.Events.{Event, held_by}
-use Rattle.otel_model_stream.specs.Entries.{Entry, Table, entry_for, at_entry, write, entries_with_place}
+use Rattle.otel_model_stream.specs.Entries.{Entry, entry_for, at_entry, write, entries_with_place}
 use Rattle.otel_model_stream.specs.Machine.{through}
 use Rattle.otel_model_stream.specs.Totals.{size}
 use Rattle.otel_model.specs.Calls.{Number}
@@ -16,7 +16,7 @@ use Rattle.otel_model.specs.Sent.{is_fed, set_for}
 use Rattle.otel_model.specs.Machine.{stream_after, machine_after, recorded_after, if_held}
 use Rattle.otel_model.specs.Places.{Series, Listed, Held, call_at, with_table, set_placed, stream_placed, entry_at, written_at, stream_written, is_settled, IsPlaced}
 use Rattle.otel_model.proofs.Single.{some_is}
-use Rattle.otel_model.proofs.batches.Tables.{is_there, there-on, entry_for-on, settled-on, settled_stays, there_stays, settled_rests, settled_once, entry_stays, settled_there, apart_table}
+use Rattle.otel_model.proofs.batches.Tables.{Keeps, is_there, there-on, entry_for-on, settled-on, settled_stays, there_stays, settled_rests, settled_once, entry_stays, settled_there, apart_table}
 use Rattle.otel_model.proofs.batches.Writes.{blurred, write-keeps, blurred-keeps, cleared_table, blurred_table, blurred_twice, swapped_table, wrap_twice}
 
 -- what a stream keeps, how its entries begin, and what it makes of a value
@@ -78,14 +78,13 @@ module _ (feeds : List (List Identity)) where
   held_written (Some g) v q there = λ h x e. there-on x g (write (sample_in q v)) (write-keeps (sample_in q v)) (entries_in q) ∙ there h x e
 
   -- ======== the entry of a series ========
-  entry_with : (s : Series) (q : Stream) (t : Table) → ((x : AttributeSet) → entry_for x t.entries ≡ entry_for x (entries_in q)) → entry_at feeds s (with_table t q) ≡ entry_at feeds s q
-  entry_with (Listed n l) q t e = ap (λ x. cond (is_fed feeds n q.demand.identity) (Some x) None) (e (set_for q.demand l))
-  entry_with (Held h) q t e = refl
+  entry_on : (s : Series) (g : AttributeSet) (f : Entry → Entry) → Keeps f → (q : Stream) → entry_at feeds s (with_table (at_entry g f q.machine.table) q) ≡ entry_at feeds s q
+  entry_on (Listed n l) g f k q = ap (λ x. cond (is_fed feeds n q.demand.identity) (Some x) None) (entry_for-on (set_for q.demand l) g f k (entries_in q))
+  entry_on (Held h) g f k q = refl
 
   entry_written : (s : Series) (o : Option AttributeSet) (v : Amount) (q : Stream) → entry_at feeds s (written_at o v q) ≡ entry_at feeds s q
   entry_written s None v q = refl
-  entry_written (Listed n l) (Some g) v q =
-      ap (λ x. cond (is_fed feeds n q.demand.identity) (Some x) None) (entry_for-on (set_for q.demand l) g (write (sample_in q v)) (write-keeps (sample_in q v)) (entries_in q))
+  entry_written (Listed n l) (Some g) v q = entry_on (Listed n l) g (write (sample_in q v)) (write-keeps (sample_in q v)) q
   entry_written (Held h) (Some g) v q = refl
 
   -- that of a series that has its place is there, and stays the same
@@ -147,7 +146,7 @@ module _ (feeds : List (List Identity)) where
 
   entry_blurred : (s : Series) (o : Option AttributeSet) (q : Stream) → entry_at feeds s (blurred_at o q) ≡ entry_at feeds s q
   entry_blurred s None q = refl
-  entry_blurred s (Some g) q = entry_with s q (at_entry g blurred q.machine.table) (λ x. entry_for-on x g blurred blurred-keeps (entries_in q))
+  entry_blurred s (Some g) q = entry_on s g blurred blurred-keeps q
 
   pub stream_cleared : (s : Series) (v : Number) (q : Stream) → stream_written feeds s v (stream_blurred s q) ≡ stream_written feeds s v q
   stream_cleared s v q = ap (λ o. written_at o v.amount (stream_blurred s q)) (entry_blurred s (entry_at feeds s q) q) ∙ go (entry_at feeds s q)

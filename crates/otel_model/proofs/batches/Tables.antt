@@ -23,27 +23,23 @@ pub record Keeps (f : Entry → Entry) : Type 0 where
   pub counted : (e : Entry) → (f e).counted ≡ e.counted
 
 -- ======== a change of one entry ========
-on-set : (g : AttributeSet) (f : Entry → Entry) → Keeps f → (e : Entry) → (on g f e).set ≡ e.set
-on-set g f k e = go (is_of g e)
+on-keeps : {A : Type 0} (get : Entry → A) (g : AttributeSet) (f : Entry → Entry) → ((e : Entry) → get (f e) ≡ get e) → (e : Entry) → get (on g f e) ≡ get e
+on-keeps get g f k e = go (is_of g e)
   where
-    go : (b : Bool) → (cond b (f e) e).set ≡ e.set
-    go true = k.set e
+    go : (b : Bool) → get (cond b (f e) e) ≡ get e
+    go true = k e
     go false = refl
 
-on-counted : (g : AttributeSet) (f : Entry → Entry) → Keeps f → (e : Entry) → (on g f e).counted ≡ e.counted
-on-counted g f k e = go (is_of g e)
-  where
-    go : (b : Bool) → (cond b (f e) e).counted ≡ e.counted
-    go true = k.counted e
-    go false = refl
+pub is_of-on : (s g : AttributeSet) (f : Entry → Entry) → Keeps f → (e : Entry) → is_of s (on g f e) ≡ is_of s e
+is_of-on s g f k e = on-keeps (is_of s) g f (λ e i. set_eq (k.set e i) s) e
 
 pub has-on : (s g : AttributeSet) (f : Entry → Entry) → Keeps f → (es : List Entry) → has s (map (on g f) es) ≡ has s es
 has-on s g f k [] = refl
-has-on s g f k (e ∷ es) = λ i. set_eq (on-set g f k e i) s || has-on s g f k es i
+has-on s g f k (e ∷ es) = λ i. is_of-on s g f k e i || has-on s g f k es i
 
 counted-on : (g : AttributeSet) (f : Entry → Entry) → Keeps f → (es : List Entry) → number_counted (map (on g f) es) ≡ number_counted es
 counted-on g f k [] = refl
-counted-on g f k (e ∷ es) = (λ i. counted_first (on-counted g f k e i) (on g f e) (map (on g f) es)) ∙ go e.counted (counted-on g f k es)
+counted-on g f k (e ∷ es) = (λ i. counted_first (on-keeps (λ e. e.counted) g f k.counted e i) (on g f e) (map (on g f) es)) ∙ go e.counted (counted-on g f k es)
   where
     counted_first : Bool → Entry → List Entry → ℕ
     counted_first b e es = length (cond b (e ∷ filter (λ (x : Entry). x.counted) es) (filter (λ (x : Entry). x.counted) es))

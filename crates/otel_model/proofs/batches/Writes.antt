@@ -2,12 +2,11 @@
 use Rattle.std.proofs.Common.{◌≡◌, ℕ, zero, suc, ◌+◌, ℤ, List, [], ◌∷◌, map, Bool, true, false, cond, Option, Some, None, refl, sym, ap, ◌∙◌, arith}
 use Rattle.std.specs.Int.{int_min, int_max}
 use Rattle.std.proofs.lemmas.Int.{ints, int_min_is, int_max_is}
-use Rattle.otel_common.specs.Equality.{set_eq}
 use Rattle.otel_model_stream.specs.Sets.{AttributeSet}
 use Rattle.otel_model_stream.specs.Folds.{Sample, Fold, Total, Last, Spreads, Spread, wrap, lesser, greater, counted_in, record_spread, record_fold}
 use Rattle.otel_model_stream.specs.Entries.{Entry, Table, is_of, on, write, at_entry}
 use Rattle.otel_model.proofs.Gather.{map_both}
-use Rattle.otel_model.proofs.batches.Tables.{Keeps}
+use Rattle.otel_model.proofs.batches.Tables.{Keeps, is_of-on}
 
 -- ======== folds ========
 -- a fold without what the next measurement does away with: a last value
@@ -77,23 +76,16 @@ pub blurred-keeps : Keeps blurred
 blurred-keeps = record { set = λ e. refl; counted = λ e. refl }
 
 -- one change after another, by the tests of the first entry
-of-on : (g h : AttributeSet) (k : Entry → Entry) → Keeps k → (e : Entry) → is_of g (on h k e) ≡ is_of g e
-of-on g h k keeps e = go (is_of h e)
-  where
-    go : (b : Bool) → is_of g (cond b (k e) e) ≡ is_of g e
-    go true = ap (λ s. set_eq s g) (keeps.set e)
-    go false = refl
-
 abbrev at : Bool → (Entry → Entry) → Entry → Entry
 at b f e = cond b (f e) e
 
 two : (g h : AttributeSet) (f k : Entry → Entry) → Keeps k → (e : Entry) → on g f (on h k e) ≡ at (is_of g e) f (at (is_of h e) k e)
-two g h f k kk e = λ i. at (of-on g h k kk e i) f (on h k e)
+two g h f k kk e = λ i. at (is_of-on g h k kk e i) f (on h k e)
 
 three : (g h j : AttributeSet) (f k m : Entry → Entry) → Keeps k → Keeps m → (e : Entry) → on g f (on h k (on j m e)) ≡ at (is_of g e) f (at (is_of h e) k (at (is_of j e) m e))
 three g h j f k m kk km e =
-    (λ i. at (of-on g h k kk (on j m e) i) f (on h k (on j m e)))
-    ∙ (λ i. at (of-on g j m km e i) f (at (of-on h j m km e i) k (on j m e)))
+    (λ i. at (is_of-on g h k kk (on j m e) i) f (on h k (on j m e)))
+    ∙ (λ i. at (is_of-on g j m km e i) f (at (is_of-on h j m km e i) k (on j m e)))
 
 -- a write does away with what blurring does
 cleared_at : (a : Bool) (v : Sample) (e : Entry) → at a (write v) (at a blurred e) ≡ at a (write v) e
