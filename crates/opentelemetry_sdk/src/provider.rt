@@ -332,8 +332,9 @@ impl<P: Parts> Provider<P> {
     /// - `Record` looks up, in each stream that the instrument feeds, what the stream keeps of the attributes, in the
     ///   order given. One look-up is enough if that is sorted by key, has no key twice and has an entry; two are enough
     ///   if it is in the order that first brought its set. Otherwise references to it are sorted and looked up. Up to 16
-    ///   keys are sorted without memory; a new set is copied. A set that has an entry is never refused for want of
-    ///   memory: if it has more keys and there is none for sorting them, it is found in quadratic time. Without
+    ///   keys are sorted without memory; a new set is copied, unless it goes to an overflow entry. A set that has an
+    ///   entry is never refused for want of memory: if it has more keys and there is none for sorting them, it is found
+    ///   in quadratic time. Without
     ///   attributes there is no look-up. A histogram finds the value's bucket by a binary search of its bounds. A record
     ///   is made in all streams or in none.
     /// - `Bind` looks up the attributes in each stream as a record does, holds a place there, and takes memory for the
@@ -354,7 +355,8 @@ impl<P: Parts> Provider<P> {
     ///   down all the same. After a shutdown they are refused, and ask no reader. They take no memory beyond what
     ///   readers take.
     ///
-    /// `known` says that a record is never refused for want of memory if its attributes have an entry in each stream.
+    /// `known` says that a record is never refused for want of memory if it makes no entry: each stream has one of its
+    /// attributes, or is past its limit and has the overflow entry.
     /// `reached` says what becomes of the readers: a flush and a shutdown ask them, any other call leaves them as they
     /// were.
     pub fn step(&mut self, call: &Call) -> Reply
@@ -490,8 +492,8 @@ impl<P: Parts> Provider<P> {
     ///
     /// `run` says what is done, call by call, and `reached` what becomes of the readers; if no call asks them, they
     /// stay as they were (`unasked`). `known` says, for any provider, that a record is never refused for want of memory
-    /// if its attributes have an entry in each stream when its turn comes. `order` says, for any provider, that with the attributes of a record in another
-    /// order, where no key stands twice, the same replies and state are right. The clauses from `streams` on say, for a
+    /// if it makes no entry when its turn comes. `order` says, for any provider, that with the attributes of a record in
+    /// another order, where no key stands twice, the same replies and state are right. The clauses from `streams` on say, for a
     /// provider as `build` gave it, what can be read off the calls and replies alone. `given` adds up the replies
     /// themselves: under each heading, which is a scope, a name, a description, a unit and a number type, unless an
     /// observed sum has it, what was recorded is what the delta points of the collections that the reader was given add

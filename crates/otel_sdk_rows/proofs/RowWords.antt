@@ -21,6 +21,9 @@ x1 = pair 120 1 ∷ []
 abbrev pub y1 : List KeyValue
 y1 = pair 121 1 ∷ []
 
+abbrev pub z1 : List KeyValue
+z1 = pair 122 1 ∷ []
+
 abbrev pub u64 : ℕ → Number
 u64 n = record { signed = false; amount = record { bits = n; wide = pos n } }
 

@@ -7,11 +7,12 @@ use Rattle.otel_common.specs.declared.faults.Fault.TheVariants as fault
 use Rattle.otel_common.specs.declared.faults.InternalFault.TheVariants as inner
 use Rattle.otel_data.specs.declared.collections.ResourceMetrics.{ResourceMetrics}
 use Rattle.otel_data.specs.declared.numbers.NumberValue.TheVariants as number
+use Rattle.otel_model_stream.specs.Sets.{over_set}
 use Rattle.otel_model.specs.Calls as model
 use Rattle.otel_model.specs.Calls.{Meter, Build, Record, Bind, RecordBound, Unbind, Collect, Flush, Shutdown, Counter, ObservableCounter}
 use Rattle.otel_model.specs.Demands.{Identity, own_demand}
 use Rattle.otel_model.specs.State.{ReaderPart, State, Stream}
-use Rattle.otel_model.specs.Steps.{after}
+use Rattle.otel_model.specs.Steps.{after, state_of}
 use Rattle.otel_stream.specs.Runs.{concat_lists}
 use Rattle.opentelemetry_sdk.specs.Checks.{has_stream, collect_refusal}
 use Rattle.opentelemetry_sdk.specs.Known.{is_known, IsKnown, HasMemory, EachKnownHasMemory}
@@ -22,20 +23,35 @@ use Rattle.opentelemetry_sdk.specs.declared.calls.Call.TheVariants as call
 use Rattle.opentelemetry_sdk.specs.declared.calls.Reply.TheVariants as reply
 use Rattle.opentelemetry_sdk.specs.declared.metrics.shared.pending.PendingRecord.{PendingRecord}
 use Rattle.opentelemetry_sdk.specs.declared.metrics.shared.pending.PendingRecord.TheVariants as pending
-use Rattle.opentelemetry_sdk.specs.pipeline.Known.{is_known_to, is_known_by, is_known_at}
+use Rattle.opentelemetry_sdk.specs.pipeline.Known.{overflows, is_known_in, is_known_to, is_known_by, is_known_at}
 use Rattle.opentelemetry_sdk.specs.pipeline.Pipelines.{has_stream_at, some_stream}
-use Rattle.otel_sdk_rows.proofs.RowWords.{x1, y1, u64, m, about, cumulative, begun, ended, used}
+use Rattle.otel_sdk_rows.proofs.RowWords.{x1, y1, z1, u64, m, about, cumulative, limited, begun_with, begun, ended, used}
 
 -- ======== known attributes ========
--- the second reader's stream had room for the first set alone
-pub known_at_readers : map (is_known_at 0 y1) used.readers ≡ true ∷ false ∷ []
+-- the second reader's stream had room for the first set alone, so others go to its overflow entry
+pub known_at_readers : map (is_known_at 0 y1) used.readers ≡ true ∷ true ∷ []
 unfolding canon
 known_at_readers = refl
 
--- the empty attributes are known, and those that have an entry at both readers
-pub known : map (λ l. is_known 0 l used) ([] ∷ x1 ∷ y1 ∷ []) ≡ true ∷ true ∷ false ∷ []
+-- the first reader's stream has room for another set
+pub new_at_readers : map (is_known_at 0 z1) used.readers ≡ false ∷ true ∷ []
+unfolding canon
+new_at_readers = refl
+
+-- the empty attributes are known, and those that make no entry at either reader
+pub known : map (λ l. is_known 0 l used) ([] ∷ x1 ∷ y1 ∷ z1 ∷ []) ≡ true ∷ true ∷ true ∷ false ∷ []
 unfolding canon
 known = refl
+
+-- a full stream whose overflow entry is still to be made knows no other set
+pub unknown_where_nothing_overflowed : is_known 0 y1 (state_of [] (begun_with (limited ∷ [])) (Record 0 (u64 1) x1 ∷ [])) ≡ false
+unfolding canon
+unknown_where_nothing_overflowed = refl
+
+-- nor does one with room, where a program recorded the overflow entry's own set
+pub unknown_beside_the_overflow_set : map (λ l. is_known 0 l (after [] begun (Record 0 (u64 1) over_set))) (over_set ∷ y1 ∷ []) ≡ true ∷ false ∷ []
+unfolding canon
+unknown_beside_the_overflow_set = refl
 
 -- an instrument that feeds nothing knows all
 pub known_where_nothing_is_fed : is_known 2 y1 used ≡ true
@@ -45,9 +61,17 @@ known_where_nothing_is_fed = refl
 abbrev streams : List Stream
 streams = concat_lists (map (λ (part : ReaderPart). part.streams) used.readers)
 
-pub known_to_streams : map (is_known_to y1) streams ≡ true ∷ false ∷ false ∷ false ∷ []
+pub known_to_streams : map (is_known_to y1) streams ≡ true ∷ false ∷ true ∷ false ∷ []
 unfolding canon
 known_to_streams = refl
+
+pub overflowing_streams : map (λ (q : Stream). overflows q.demand.limit q.machine.table.entries) streams ≡ false ∷ false ∷ true ∷ false ∷ []
+unfolding canon
+overflowing_streams = refl
+
+pub known_in_tables : map (λ (q : Stream). is_known_in y1 q.demand.limit q.machine.table.entries) streams ≡ true ∷ false ∷ true ∷ false ∷ []
+unfolding canon
+known_in_tables = refl
 
 abbrev counter : Identity
 counter = (own_demand cumulative m (about Counter)).identity
@@ -69,7 +93,7 @@ pub record_without_attributes_known : IsKnown begun (Record 0 (u64 2) [])
 unfolding canon
 record_without_attributes_known = refl
 
-pub record_unknown : IsKnown used (Record 0 (u64 2) y1) → ⊥
+pub record_unknown : IsKnown used (Record 0 (u64 2) z1) → ⊥
 unfolding canon
 record_unknown e = true≢false (sym e)
 
@@ -96,11 +120,11 @@ known_refused_later h =
 abbrev waiting : List KeyValue → PendingRecord
 waiting l = pending.Plain 0 (number.U64 2) l
 
-pub first_known : IsKnownFirst used (waiting x1 ∷ waiting y1 ∷ [])
+pub first_known : IsKnownFirst used (waiting x1 ∷ waiting z1 ∷ [])
 unfolding canon
 first_known = refl
 
-pub first_unknown : IsKnownFirst used (waiting y1 ∷ waiting x1 ∷ []) → ⊥
+pub first_unknown : IsKnownFirst used (waiting z1 ∷ waiting x1 ∷ []) → ⊥
 unfolding canon
 first_unknown e = true≢false (sym e)
 

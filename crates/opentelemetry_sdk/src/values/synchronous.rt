@@ -101,7 +101,8 @@ impl<K: Adds, T: NumberType> Synchronous<K, T> {
     /// Adds a value, in the instrument's unit, with attributes in any order, as `step` does with `Call::Record`.
     ///
     /// Costs the same as that step, except that the attributes are borrowed. `known` says that it is never refused for
-    /// want of memory if the attributes have an entry in each stream.
+    /// want of memory if it makes no entry: each stream has one of the attributes, or is past its limit and has the
+    /// overflow entry.
     ///
     /// Refused with `UnknownInstrument` if the instrument belongs to a provider of another identity, before anything
     /// else is checked. If two providers of one identity mix up their instruments, the call is refused with
