@@ -89,25 +89,6 @@ kept-evicted s k m h =
 pub kept-drained : (s : Bool) (k : Form) (m : MapState) → IsKeptMap s k m → IsKeptMap s k (drained_map m)
 kept-drained s k m h = (h.0, (kept-cleared s k m.table.none.fold h.1.0, tt))
 
--- ======== steps of a map ========
--- a record of the set that is prepared
-pub kept-prepared : (s : Bool) (k : Form) (old new : MapState) (pending : Option AttributeSet) (v : Sample) → IsWithin s v.wide → IsSome pending → ((x : AttributeSet) → pending ≡ Some x → new ≡ measured_map x v old) → IsKeptMap s k old → IsKeptMap s k new
-kept-prepared s k old new None v w some is h = absurd (true≢false (sym some))
-kept-prepared s k old new (Some x) v w some is h = subst (IsKeptMap s k) (sym (is x refl)) (kept-measured s k x v old w h)
-
-pub drained-prepared : (old new : MapState) (pending : Option AttributeSet) (v : Sample) → IsSome pending → ((x : AttributeSet) → pending ≡ Some x → new ≡ measured_map x v old) → drained_map new ≡ drained_map old
-drained-prepared old new None v some is = absurd (true≢false (sym some))
-drained-prepared old new (Some x) v some is = ap drained_map (is x refl) ∙ drained-measured x v old
-
--- a record of attributes, unless it is refused
-pub kept-listed : {T E : Type 0} (s : Bool) (k : Form) (old new : MapContents) (l : List KeyValue) (v : Sample) (r : Result T E) → OnOk r (known_of new ≡ measured_list l v (known_of old)) → OnErr r (known_of new ≡ known_of old) → IsWithin s v.wide → IsKeptMap s k old.state → IsKeptMap s k new.state
-kept-listed s k old new l v (Ok t) is same w h = subst (λ (x : KnownMap). IsKeptMap s k x.map_state) (sym is) (kept-measured s k (canon l) v old.state w h)
-kept-listed s k old new l v (Err e) is same w h = subst (λ (x : KnownMap). IsKeptMap s k x.map_state) (sym same) h
-
-pub drained-listed : {T E : Type 0} (old new : MapContents) (l : List KeyValue) (v : Sample) (r : Result T E) → OnOk r (known_of new ≡ measured_list l v (known_of old)) → OnErr r (known_of new ≡ known_of old) → drained_map new.state ≡ drained_map old.state
-drained-listed old new l v (Ok t) is same = ap (λ (x : KnownMap). drained_map x.map_state) is ∙ drained-measured (canon l) v old.state
-drained-listed old new l v (Err e) is same = ap (λ (x : KnownMap). drained_map x.map_state) same
-
 -- ======== a new stream ========
 kept-new : (s : Bool) (settings : AnySettings) (limit : ℕ) → IsKeptMap s (form_of (aggregate_of settings)) (new_map limit (empty_of (aggregate_of settings)))
 kept-new s (kinds.Sum is_monotonic) limit = ((refl, (tt, tt)), ((refl, (tt, tt)), tt))

@@ -1,4 +1,4 @@
-use Rattle.std.proofs.Common.{ap, is_some, sym, subst, List}
+use Rattle.std.proofs.Common.{ap, is_some, rules, sym, subst, List}
 use Rattle.std.specs.List.{AllByRecursion}
 use Rattle.otel_model_stream.specs.Events.{Handles}
 use Rattle.otel_model_stream.specs.Entries.{evicted_table}
@@ -38,4 +38,4 @@ returns-then-self c =
     let new : Numbers = now.new.self.numbers in
     let links : List Link = c.self.inside.live.entries in
     let still : AllByRecursion (IsLinkedStill was.numbers new) links = still-left (evicted_table was.state.table).entries was.numbers new now.ensures.numbers links c.self.invariant.0 (placed-evicted was.state.table (handles_of was.numbers links) c.self.invariant.1) in
-    record { ended = collected-made c.self.view_is c.args.now now.new.self.state (handles_of new links) now.new.self.pending (ap is_some c.in-None.is) c.if-self.true now.ensures.state (handles-still was.numbers new c.law_of_numbers.ensures.named links still) now.ensures.unprepared }
+    record { ended = collected-made c.self.view_is c.args.now now.new.self.state (handles_of new links) now.new.self.pending _ (ap is_some c.in-None.is) c.if-self.true now.ensures.state (handles-still was.numbers new c.law_of_numbers.ensures.named links still) now.ensures.unprepared (search rules) }

@@ -51,8 +51,8 @@ returns-in-Some-clause-updated c =
     let linked : number_of set old ≡ Some c.in-Some.number = found-linked old c.args.handle c.in-Some.number links c.self.invariant.0 (sym c.in-Some.ensures) in
     let now = c.update_bound in
     if-typed seen taken
-    (update-made c.self.view_is c.args.handle set (amount_of c.args.value) (sample_in c.record-record.result) now.new.self.state (handles_of now.new.self.numbers links) now.new.self.pending
-    (held-found old c.args.handle links (Some c.in-Some.number) c.in-Some.ensures) c.record-record.ensures (now.ensures.updated set linked) (ap (λ (ns : Numbers). handles_of ns links) now.ensures.numbers) now.ensures.spent)
+    (update-made c.self.view_is c.args.handle set (amount_of c.args.value) (sample_in c.record-record.result) now.new.self.state (handles_of now.new.self.numbers links) now.new.self.pending c.counted-self-inside.result
+    (held-found old c.args.handle links (Some c.in-Some.number) c.in-Some.ensures) c.record-record.ensures (now.ensures.updated set linked) (ap (λ (ns : Numbers). handles_of ns links) now.ensures.numbers) now.ensures.spent c.counted-self-inside.ensures)
 
 pub returns-in-Some-clause-told : goal.returns-in-Some-clause-told
 returns-in-Some-clause-told c =
