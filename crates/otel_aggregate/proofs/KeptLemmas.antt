@@ -1,18 +1,16 @@
 -- What a stream of any aggregate keeps stays of its form and number type.
-use Rattle.std.proofs.Common.{◌≡◌, ◌∙◌, refl, ap, sym, subst, ℕ, Bool, true, false, cond, List, [], ◌∷◌, map, filter, Option, Some, None, is_some, Result, Ok, Err, true≢false}
+use Rattle.std.proofs.Common.{◌≡◌, ◌∙◌, refl, ap, sym, subst, ℕ, Bool, true, false, cond, List, [], ◌∷◌, map, filter, Option, Some, None, is_some, true≢false}
 use Rattle.std.specs.Prelude.{Box}
 use Rattle.std.specs.declared.alloc.Global.{Global}
-use Rattle.std.specs.Prelude.{ℤ, ◌||◌, nat_lt, OnOk, OnErr, IsSome}
+use Rattle.std.specs.Prelude.{ℤ, ◌||◌, nat_lt}
 use Rattle.std.proofs.lemmas.Bool.{cond_both}
 use Rattle.std.specs.List.{AllByRecursion}
-use Rattle.otel_common.specs.Canonical.{canon}
 use Rattle.otel_common.specs.Equality.{set_eq}
-use Rattle.otel_common.specs.declared.attributes.KeyValue.{KeyValue}
 use Rattle.otel_model_stream.specs.Sets.{AttributeSet, none_set, over_set}
 use Rattle.otel_model_stream.specs.Folds.{Sample, Fold, Total, Last, Spreads, record_fold, clear_fold, empty_of, lesser, greater}
 use Rattle.otel_model_stream.specs.Entries.{Entry, Point, Table, new_entry, is_of, has, number_counted, entries_with_place, entry_for, on, write, take_handle, drop_handle, reset, stays, points, point_of_entry}
-use Rattle.otel_model_stream.specs.Maps.{MapState, KnownMap, new_map, measured_map, measured_list, bound_map, updated_bound, unbound_map, evicted_map, drained_map}
-use Rattle.otel_aggregate.specs.value_map.Contents.{MapContents, known_of}
+use Rattle.otel_model_stream.specs.Maps.{MapState, new_map, measured_map, bound_map, updated_bound, unbound_map, evicted_map, drained_map}
+use Rattle.otel_aggregate.specs.value_map.Contents.{MapContents}
 use Rattle.otel_aggregate.specs.value_map.Slots.{HasForm}
 use Rattle.otel_aggregate.specs.declared.settings.AnySettings.{AnySettings}
 use Rattle.otel_aggregate.specs.declared.settings.AnySettings.TheVariants as kinds
@@ -20,7 +18,7 @@ use Rattle.otel_aggregate.specs.Any.{Form, form_of, aggregate_of, drains_of}
 use Rattle.otel_aggregate.specs.Kept.{form_of_fold, IsWithin, IsWithinIfSome, IsKept, AreKept, IsKeptMap, IsReportedOf, AreShowable, state_of}
 use Rattle.otel_aggregate.specs.Links.{Link}
 use Rattle.otel_aggregate.proofs.All.{all-map, all-append, all-filter}
-use Rattle.otel_aggregate.proofs.ObservedLemmas.{drained-measured, drained-exchanged}
+use Rattle.otel_aggregate.proofs.ObservedLemmas.{drained-exchanged}
 
 -- ======== folds ========
 within-lesser : (s : Bool) (o : Option ℤ) (z : ℤ) → IsWithin s z → IsWithinIfSome s o → IsWithinIfSome s (lesser o z)
