@@ -8,8 +8,8 @@ use Rattle.std.specs.List.{AllByRecursion}
 use Rattle.otel_common.specs.Equality.{set_eq}
 use Rattle.otel_model_stream.specs.Sets.{AttributeSet, none_set, over_set}
 use Rattle.otel_model_stream.specs.Folds.{Sample, Fold, Total, Last, Spreads, record_fold, clear_fold, empty_of, lesser, greater}
-use Rattle.otel_model_stream.specs.Entries.{Entry, Point, Table, new_entry, is_of, has, number_counted, entries_with_place, entry_for, on, write, take_handle, drop_handle, reset, stays, points, point_of_entry}
-use Rattle.otel_model_stream.specs.Maps.{MapState, new_map, measured_map, bound_map, updated_bound, unbound_map, evicted_map, drained_map}
+use Rattle.otel_model_stream.specs.Entries.{Entry, Point, Table, new_entry, is_of, has, number_counted, entries_with_place, entry_for, on, write, place, take_handle, drop_handle, reset, stays, points, point_of_entry}
+use Rattle.otel_model_stream.specs.Maps.{MapState, new_map, bound_map, updated_bound, unbound_map, evicted_map, drained_map}
 use Rattle.otel_aggregate.specs.value_map.Contents.{MapContents}
 use Rattle.otel_aggregate.specs.value_map.Slots.{HasForm}
 use Rattle.otel_aggregate.specs.declared.settings.AnySettings.{AnySettings}
@@ -56,18 +56,14 @@ all-placed s k limit empty set es none all =
 kept-on : (s : Bool) (k : Form) (g : AttributeSet) (h : Entry → Entry) → ((e : Entry) → IsKept s k e.fold → IsKept s k (h e).fold) → (e : Entry) → IsKept s k e.fold → IsKept s k (on g h e).fold
 kept-on s k g h one e kept = cond_both (is_of g e) (h e) e (KeepsOf s k) (λ q. one e kept) (λ q. kept)
 
-kept-written : (s : Bool) (k : Form) (g : AttributeSet) (v : Sample) → IsWithin s v.wide → (t : Table) (es : List Entry) → IsKept s k t.none.fold → All s k es → AreKept s k (record { none = on g (write v) t.none; entries = map (on g (write v)) es })
-kept-written s k g v w t es none all =
-    let one : (e : Entry) → IsKept s k e.fold → IsKept s k (on g (write v) e).fold = kept-on s k g (write v) (λ (e : Entry). λ (h : IsKept s k e.fold). kept-recorded s k e.fold v w h) in
-    (one t.none none, all-map (KeepsOf s k) (KeepsOf s k) (on g (write v)) one es all)
-
 -- ======== maps ========
-pub kept-measured : (s : Bool) (k : Form) (set : AttributeSet) (v : Sample) (m : MapState) → IsWithin s v.wide → IsKeptMap s k m → IsKeptMap s k (measured_map set v m)
-kept-measured s k set v m w h =
-    (h.0, kept-written s k _ v w m.table (entries_with_place m.limit m.empty set m.table.entries) h.1.0 (all-placed s k m.limit m.empty set m.table.entries h.0 h.1.1))
+pub kept-placed : (s : Bool) (k : Form) (set : AttributeSet) (m : MapState) → IsKeptMap s k m → IsKeptMap s k (record m { table = place m.limit m.empty set m.table })
+kept-placed s k set m h = (h.0, (h.1.0, all-placed s k m.limit m.empty set m.table.entries h.0 h.1.1))
 
 pub kept-updated : (s : Bool) (k : Form) (g : AttributeSet) (v : Sample) (m : MapState) → IsWithin s v.wide → IsKeptMap s k m → IsKeptMap s k (updated_bound g v m)
-kept-updated s k g v m w h = (h.0, kept-written s k g v w m.table m.table.entries h.1.0 h.1.1)
+kept-updated s k g v m w h =
+    let one : (e : Entry) → IsKept s k e.fold → IsKept s k (on g (write v) e).fold = kept-on s k g (write v) (λ (e : Entry). λ (x : IsKept s k e.fold). kept-recorded s k e.fold v w x) in
+    (h.0, (one m.table.none h.1.0, all-map (KeepsOf s k) (KeepsOf s k) (on g (write v)) one m.table.entries h.1.1))
 
 pub kept-bound : (s : Bool) (k : Form) (set : AttributeSet) (m : MapState) → IsKeptMap s k m → IsKeptMap s k (bound_map set m)
 kept-bound s k set m h =

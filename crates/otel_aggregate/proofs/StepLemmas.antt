@@ -8,6 +8,7 @@ use Rattle.std.proofs.lemmas.List.{map-append}
 use Rattle.otel_common.specs.Canonical.{canon}
 use Rattle.otel_common.specs.Equality.{set_eq}
 use Rattle.otel_common.specs.declared.attributes.KeyValue.{KeyValue}
+use Rattle.otel_data.specs.declared.numbers.NumberValue.{NumberValue}
 use Rattle.otel_model_stream.specs.Sets.{AttributeSet, AllowList, none_set, set_of}
 use Rattle.otel_model_stream.specs.Folds.{Amount, Sample, sample_of, wrap}
 use Rattle.otel_model_stream.specs.Events.{Handles, held_by, without}
@@ -17,47 +18,55 @@ use Rattle.otel_model_stream.specs.Totals.{size, points_total}
 use Rattle.otel_aggregate.specs.value_map.Contents.{MapContents, known_of}
 use Rattle.otel_aggregate.specs.value_map.Numbers.{Numbers, number_of, set_named, is_placed, KeepNumbers, AreNamed, AreNumbered}
 use Rattle.otel_aggregate.specs.Links.{Link, Linked, handle_of, handles_of, IsLinked, AreHeld}
-use Rattle.otel_aggregate.specs.Any.{Form, any_after_collection, observed_in, with_observed}
+use Rattle.otel_aggregate.specs.Any.{amount_of, any_after_collection, form_of, observed_in, with_observed}
 use Rattle.otel_aggregate.specs.Kept.{IsKeptMap, IsKeptStream, IsWithin}
 use Rattle.otel_aggregate.specs.Observed.{drained_at}
 use Rattle.otel_aggregate.specs.Streams.{AggregateContents, points_now, recorded_set, recorded_attributes, taken_from, stream_after_commit, bind_of, stream_after_bind, update_at, stream_after_update, unbind_at, stream_after_unbind}
 use Rattle.otel_aggregate.proofs.All.{all-append}
-use Rattle.otel_aggregate.proofs.KeptLemmas.{kept-measured, reported-same}
-use Rattle.otel_aggregate.proofs.ObservedLemmas.{drained-measured}
-use Rattle.otel_aggregate.proofs.LinkLemmas.{IsLinkedStill, still-kept, handles-still, linked-still, held-linked}
+use Rattle.otel_aggregate.proofs.KeptLemmas.{kept-placed, kept-updated, reported-same}
+use Rattle.otel_aggregate.proofs.ObservedLemmas.{drained-updated}
+use Rattle.otel_aggregate.proofs.LinkLemmas.{LeadStill, lead-kept, held-linked}
 use Rattle.otel_aggregate.proofs.value_map.TableLemmas.{is_some-map}
 use Rattle.otel_aggregate.proofs.HandleLemmas.{has-on, held-written, held-taken, held-placed}
 
 -- ======== a record ========
--- a record of this sample is made, under some set, or none
+-- a record of this sample is made, under some set or of some set's entry, or none is made
 abbrev pub IsRecordOf : Sample → MapState → MapState → Type 0
-IsRecordOf v old new = (new ≡ old) ⊎ ((s : AttributeSet) × (new ≡ measured_map s v old))
+IsRecordOf v old new = (new ≡ old) ⊎ ((s : AttributeSet) × ((new ≡ measured_map s v old) ⊎ (new ≡ updated_bound s v old)))
 
 pub of-prepared : (old new : MapState) (pending : Option AttributeSet) (v : Sample) → IsSome pending → ((s : AttributeSet) → pending ≡ Some s → new ≡ measured_map s v old) → IsRecordOf v old new
 of-prepared old new None v some is = absurd (true≢false (sym some))
-of-prepared old new (Some s) v some is = inr (s, is s refl)
+of-prepared old new (Some s) v some is = inr (s, inl (is s refl))
 
 pub of-listed : {T E : Type 0} (old new : MapContents) (l : List KeyValue) (v : Sample) (r : Result T E) → OnOk r (known_of new ≡ measured_list l v (known_of old)) → OnErr r (known_of new ≡ known_of old) → IsRecordOf v old.state new.state
-of-listed old new l v (Ok t) is same = inr (canon l, ap (λ (k : KnownMap). k.map_state) is)
+of-listed old new l v (Ok t) is same = inr (canon l, inl (ap (λ (k : KnownMap). k.map_state) is))
 of-listed old new l v (Err e) is same = inl (ap (λ (k : KnownMap). k.map_state) same)
 
--- it leaves a stream whose handles lead to the same sets as before
-pub kept-recorded : (s : Bool) (k : Form) (was new : MapContents) (live : Linked) (room : Bool) (reported : Option MapState) (v : Sample) → IsWithin s v.wide → IsRecordOf v was.state new.state
-    → AllByRecursion (IsLinked new.numbers) live.entries → handles_of new.numbers live.entries ≡ handles_of was.numbers live.entries → IsKeptStream s k was live room reported → IsKeptStream s k new live room reported
-kept-recorded s k was new live room reported v within made linked same h =
-    let now = by made in
-    (linked, subst (AreHeld new.state.table) (sym same) now.0, h.2, now.1, reported-same k was.state new.state live.entries room reported now.2 h.4)
+-- the parts of a stream go together still if its handles lead where they led
+pub stream-recorded : {s now : AggregateContents} → s ≡ now → (value : NumberValue) (v : Sample) (was new : MapContents) (live : Linked) (reported : Option MapState) → IsWithin now.is_signed (amount_of value).wide → v ≡ sample_of s.state.aggregate (amount_of value)
+    → IsRecordOf v was.state new.state → LeadStill was.numbers new.numbers live.entries → IsKeptStream s.is_signed (form_of s.state.aggregate) was live s.room reported → IsKeptStream s.is_signed (form_of s.state.aggregate) new live s.room reported
+stream-recorded {s} {now} seen value v was new live reported within sampled made lead h =
+    let is = by made in
+    (lead.0, subst (AreHeld new.state.table) (sym lead.1) is.0, h.2, is.1, reported-same (form_of s.state.aggregate) was.state new.state live.entries s.room reported is.2 h.4)
   where
     Kept : MapState → Type 0
-    Kept m = AreHeld m.table (handles_of was.numbers live.entries) × IsKeptMap s k m × (drained_map m ≡ drained_map was.state)
+    Kept m = AreHeld m.table (handles_of was.numbers live.entries) × IsKeptMap s.is_signed (form_of s.state.aggregate) m × (drained_map m ≡ drained_map was.state)
+
+    wide : IsWithin s.is_signed v.wide
+    wide = subst (λ (x : Sample). IsWithin s.is_signed x.wide) (sym sampled) (subst (λ (a : AggregateContents). IsWithin a.is_signed (amount_of value).wide) (sym seen) within)
+
+    updated : (g : AttributeSet) (m : MapState) → Kept m → Kept (updated_bound g v m)
+    updated g m x = (held-written m.table (handles_of was.numbers live.entries) g v x.0, kept-updated s.is_signed (form_of s.state.aggregate) g v m wide x.1, drained-updated g v m ∙ x.2)
 
     by : IsRecordOf v was.state new.state → Kept new.state
     by (inl e) = subst Kept (sym e) (h.1, h.3, refl)
-    by (inr w) =
-        let before : MapState = was.state in
-        let placed : Table = place before.limit before.empty w.0 before.table in
-        subst Kept (sym w.1)
-        (held-written placed (handles_of was.numbers live.entries) (entry_for w.0 placed.entries) v (held-placed before.limit before.empty w.0 before.table (handles_of was.numbers live.entries) h.1), kept-measured s k w.0 v before within h.3, drained-measured w.0 v before)
+    by (inr w) = elim w.1 [
+      | inl e ↦
+          let m : MapState = was.state in
+          let placed : MapState = record m { table = place m.limit m.empty w.0 m.table } in
+          subst Kept (sym e) (updated (entry_for w.0 placed.table.entries) placed (held-placed m.limit m.empty w.0 m.table (handles_of was.numbers live.entries) h.1, kept-placed s.is_signed (form_of s.state.aggregate) w.0 m h.3, refl))
+      | inr e ↦ subst Kept (sym e) (updated w.0 was.state (h.1, h.3, refl))
+    ]
 
 -- ======== in a stream that takes the value ========
 -- what is done to a stream of the value's number type
@@ -148,7 +157,7 @@ module _ (old new : Numbers) (before after : MapState) (ps : List Link) (h n : �
     set = s;
     prepared = refl;
     state = is;
-    linked = all-append (IsLinked new) ps ((h, n) ∷ []) (linked-still old new named ps still) (ap (λ (x : AttributeSet). number_of x new) name ∙ number, tt);
+    linked = all-append (IsLinked new) ps ((h, n) ∷ []) lead.0 (ap (λ (x : AttributeSet). number_of x new) name ∙ number, tt);
     held = subst (AreHeld after.table) (sym handles)
         (subst (λ (m : MapState). AreHeld m.table (handles_of old ps ++ (h, bound_to s before) ∷ [])) (sym is)
         (held-taken placed (handles_of old ps) h (bound_to s before) there (held-placed before.limit before.empty s before.table (handles_of old ps) held)));
@@ -158,14 +167,14 @@ module _ (old new : Numbers) (before after : MapState) (ps : List Link) (h n : �
       placed : Table
       placed = place before.limit before.empty s before.table
 
-      still : AllByRecursion (IsLinkedStill old new) ps
-      still = still-kept old new keep ps linked
+      lead : LeadStill old new ps
+      lead = lead-kept old new keep named ps linked
 
       name : set_named n new ≡ bound_to s before
       name = named (bound_to s before) n number
 
       handles : handles_of new (ps ++ (h, n) ∷ []) ≡ handles_of old ps ++ (h, bound_to s before) ∷ []
-      handles = map-append (handle_of new) ps ((h, n) ∷ []) ∙ (λ i. handles-still old new named ps still i ++ (h, name i) ∷ [])
+      handles = map-append (handle_of new) ps ((h, n) ∷ []) ∙ (λ i. lead.1 i ++ (h, name i) ∷ [])
 
       there : is_placed (bound_to s before) placed.entries ≡ true
       there =

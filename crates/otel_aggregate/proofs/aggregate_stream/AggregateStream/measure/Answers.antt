@@ -1,36 +1,27 @@
-use Rattle.std.proofs.Common.{◌≡◌, ◌∙◌, refl, ap, sym, subst, cond, Some, None}
-use Rattle.std.specs.List.{AllByRecursion}
-use Rattle.otel_model_stream.specs.Folds.{Sample, sample_of}
+use Rattle.std.proofs.Common.{◌≡◌, ◌∙◌, refl, ap, sym, cond, Some, None}
+use Rattle.otel_model_stream.specs.Folds.{sample_of}
 use Rattle.otel_model_stream.specs.Maps.{bound_to}
 use Rattle.otel_model_stream.specs.Sets.{AttributeSet, set_of}
 use Rattle.otel_aggregate.specs.Any.{form_of, aggregate_of, amount_of, any_after_commit}
 use Rattle.otel_aggregate.specs.AnyKept.{sample_in}
-use Rattle.otel_aggregate.specs.Kept.{IsKeptStream, IsWithin, state_of}
+use Rattle.otel_aggregate.specs.Kept.{IsKeptStream, state_of}
 use Rattle.otel_aggregate.specs.Links.{handles_of}
 use Rattle.otel_aggregate.specs.Streams.{AggregateContents, recorded_in, stream_after_commit}
-use Rattle.otel_aggregate.proofs.LinkLemmas.{IsLinkedStill, still-kept, handles-still, linked-still}
-use Rattle.otel_aggregate.proofs.StepLemmas.{if-typed, kept-recorded, listed-made, listed-refused, of-listed}
+use Rattle.otel_aggregate.proofs.LinkLemmas.{LeadStill, lead-kept}
+use Rattle.otel_aggregate.proofs.StepLemmas.{if-typed, listed-made, listed-refused, of-listed, stream-recorded}
 use Rattle.otel_aggregate.proofs.value_map.PlaceLemmas.{used-measured}
 use Rattle.otel_aggregate.proofs.aggregate_stream.AggregateStream.measure.Goals as goal
 use Rattle.otel_aggregate.proofs.aggregate_stream.AggregateStream.measure.Goals.{After-law_of_numbers}
 
-still : (c : After-law_of_numbers) → AllByRecursion (IsLinkedStill c.self.inside.map.numbers c.measure_given-measured.new.self.numbers) c.self.inside.live.entries
-still c = still-kept c.self.inside.map.numbers c.measure_given-measured.new.self.numbers c.measure_given-measured.ensures.numbers c.self.inside.live.entries c.self.invariant.0
-
-same : (c : After-law_of_numbers) → handles_of c.measure_given-measured.new.self.numbers c.self.inside.live.entries ≡ handles_of c.self.inside.map.numbers c.self.inside.live.entries
-same c = handles-still c.self.inside.map.numbers c.measure_given-measured.new.self.numbers c.law_of_numbers.ensures.named c.self.inside.live.entries (still c)
-
 -- whether the record is made or refused
+lead : (c : After-law_of_numbers) → LeadStill c.self.inside.map.numbers c.measure_given-measured.new.self.numbers c.self.inside.live.entries
+lead c = lead-kept c.self.inside.map.numbers c.measure_given-measured.new.self.numbers c.measure_given-measured.ensures.numbers c.law_of_numbers.ensures.named c.self.inside.live.entries c.self.invariant.0
+
 kept : (c : After-law_of_numbers) → IsKeptStream c.self.inside.is_signed (form_of (aggregate_of c.self.inside.settings)) c.measure_given-measured.new.self c.self.inside.live c.self.inside.room (state_of c.self.inside.reported)
 kept c =
-    let was = c.self.inside.map in
     let now = c.measure_given-measured in
-    let s = c.self.inside.is_signed in
-    let v : Sample = sample_in c.record-record.result in
-    let within : IsWithin s v.wide =
-    subst (λ (x : Sample). IsWithin s x.wide) (sym c.record-record.ensures) (subst (λ (a : AggregateContents). IsWithin a.is_signed (amount_of c.args.value).wide) (sym c.self.view_is) (c.takes.ensures.within c.if-not-takes.false)) in
-    kept-recorded s (form_of (aggregate_of c.self.inside.settings)) was now.new.self c.self.inside.live c.self.inside.room (state_of c.self.inside.reported) v within (of-listed was now.new.self c.args.attributes.now v now.result now.ensures.ok now.ensures.err)
-    (linked-still was.numbers now.new.self.numbers c.law_of_numbers.ensures.named c.self.inside.live.entries (still c)) (same c) c.self.invariant
+    stream-recorded c.self.view_is c.args.value (sample_in c.record-record.result) c.self.inside.map now.new.self c.self.inside.live (state_of c.self.inside.reported) (c.takes.ensures.within c.if-not-takes.false) c.record-record.ensures
+    (of-listed c.self.inside.map now.new.self c.args.attributes.now _ now.result now.ensures.ok now.ensures.err) (lead c) c.self.invariant
 
 pub invariant_of-self : goal.invariant_of-self
 invariant_of-self c = kept (goal.at.invariant_of-self c).After-law_of_numbers
@@ -43,12 +34,12 @@ returns-in-Ok-clause-taken c =
     let now = c.measure_given-measured.new.self in
     if-typed _ (sym c.takes.ensures.told ∙ c.if-not-takes.false)
     (listed-made c.self.view_is (amount_of c.args.value) (sample_in c.record-record.result) c.args.attributes.now c.self.inside.map now (handles_of now.numbers c.self.inside.live.entries) now.pending c.counted-self-inside.result (sym c.is_some.ensures ∙ c.if-is_some.false) refl
-    c.record-record.ensures c.in-Ok.ensures.ok (same (goal.at.returns-in-Ok-clause-taken c).After-law_of_numbers) c.measure_given-measured.ensures.spent c.counted-self-inside.ensures)
+    c.record-record.ensures c.in-Ok.ensures.ok (lead (goal.at.returns-in-Ok-clause-taken c).After-law_of_numbers).1 c.measure_given-measured.ensures.spent c.counted-self-inside.ensures)
 
 pub returns-in-Err-clause-refused : goal.returns-in-Err-clause-refused
 returns-in-Err-clause-refused c =
     let now = c.measure_given-measured.new.self in
-    listed-refused c.self.view_is c.self.inside.map now (handles_of now.numbers c.self.inside.live.entries) now.pending refl c.in-Err.ensures.err (same (goal.at.returns-in-Err-clause-refused c).After-law_of_numbers) c.measure_given-measured.ensures.spent
+    listed-refused c.self.view_is c.self.inside.map now (handles_of now.numbers c.self.inside.live.entries) now.pending refl c.in-Err.ensures.err (lead (goal.at.returns-in-Err-clause-refused c).After-law_of_numbers).1 c.measure_given-measured.ensures.spent
 
 -- a record of the entry that the set uses is one of the set
 pub returns-then-is_some-clause-taken : goal.returns-then-is_some-clause-taken
