@@ -215,7 +215,7 @@ no_bind-live s h e = by s.room (held_by h s.live) e
 
 -- ======== a record through a handle, and its end ========
 -- a handle that isn't live
-without-none : (h : ℕ) (hs : Handles) → held_by h hs ≡ None → without h hs ≡ hs
+pub without-none : (h : ℕ) (hs : Handles) → held_by h hs ≡ None → without h hs ≡ hs
 without-none h [] e = refl
 without-none h (p ∷ hs) e = by (p.0 == h) e (without-none h hs)
   where

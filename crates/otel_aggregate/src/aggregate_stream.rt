@@ -221,10 +221,7 @@ impl AggregateStream {
     pub fn commit(&mut self, value: NumberValue)
         ensures taken { self.new ≡ any_after_commit value self.old }
     {
-        if !self.takes(value) {
-            return;
-        }
-        if !self.map.is_prepared() {
+        if !self.takes(value) || !self.map.is_prepared() {
             return;
         }
         let record = self.settings.record(value);

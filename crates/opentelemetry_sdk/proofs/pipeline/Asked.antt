@@ -11,6 +11,7 @@ use Rattle.otel_model.specs.Demands.{Demand}
 use Rattle.otel_model.specs.Streams.{is_drained}
 use Rattle.otel_aggregate.specs.Any.{is_signed_value, amount_of, any_after_update, any_after_unbind, takes_bound}
 use Rattle.otel_aggregate.specs.Streams.{AggregateContents, stream_after_unbind, taken_from, unbind_at, update_at}
+use Rattle.otel_aggregate.proofs.StepLemmas.{without-none}
 use Rattle.opentelemetry_sdk.specs.declared.pipeline.change.Change.TheVariants as change
 use Rattle.opentelemetry_sdk.specs.pipeline.Streams.{StreamContents, IsAsked, asked_aggregate, contents_of, with_event, contents_after, committed_by}
 
@@ -79,14 +80,6 @@ module _ (d : Demand) (a : AggregateContents) (is : IsAsked d a) where
       ∙ λ i. cond (not (is.drains i) && beq (is_signed_value value) (is.signed i)) (with_event (Event.RecordBound h (amount_of value)) held) held
 
 -- ======== the end of a handle ========
-without-none : (h : ℕ) (hs : Handles) → held_by h hs ≡ None → without h hs ≡ hs
-without-none h [] e = refl
-without-none h (p ∷ ps) e = by (p.0 == h) e (without-none h ps)
-  where
-    by : (b : Bool) → cond b (Some p.1) (held_by h ps) ≡ None → (held_by h ps ≡ None → without h ps ≡ ps) → cond b ps (p ∷ without h ps) ≡ p ∷ ps
-    by true e rest = absurd (cc)
-    by false e rest = ap (λ (l : Handles). p ∷ l) (rest e)
-
 module _ (d : Demand) (a : AggregateContents) (h : ℕ) (is : IsAsked d a) where
   abbrev ended_with : Machine → StreamContents
   ended_with m = record {

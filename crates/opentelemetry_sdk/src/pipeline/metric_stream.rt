@@ -8,7 +8,7 @@ ghost use Rattle.otel_model.specs.Collections.{number_of_points};
 ghost use Rattle.opentelemetry_sdk.specs.pipeline.Known.{is_known_to};
 ghost use Rattle.opentelemetry_sdk.specs.pipeline.Pipelines.{IsReady};
 ghost use Rattle.opentelemetry_sdk.specs.pipeline.Observations.{IsDraftOf, draft_of, drafted};
-ghost use Rattle.opentelemetry_sdk.specs.pipeline.Streams.{IsAsked, IsMakeable, contents_of, new_contents, without_pending, contents_after, contents_after_record, contents_after_collection, shown_metric, if_points};
+ghost use Rattle.opentelemetry_sdk.specs.pipeline.Streams.{IsMakeable, new_contents, without_pending, contents_after, contents_after_record, contents_after_collection, shown_metric, if_points};
 
 use crate::pipeline::aggregations::{is_observable, settings_of};
 use crate::pipeline::change::Change;
@@ -59,36 +59,6 @@ fn has_points(metrics: &AggregatedMetrics) -> bool
     many > 0
 }
 
-/// Makes the aggregate of the stream of this demand, without records, at the moment `now`, in nanoseconds since 1970, for
-/// a reader that answered this temporality.
-#[inline(always)]
-fn new_aggregate(
-    alloc: Global,
-    hasher: SetHashBuilder,
-    temporality: Temporality,
-    demand: &Demand,
-    now: u64,
-) -> Result<AggregateStream, Fault>
-    requires { IsMakeable demand.now }
-    ensures asked { IfOk result (λ made. IsAsked demand.now made) }
-    ensures made { IfOk result (λ made. contents_of demand.now made ≡ new_contents (resets temporality) demand.now now) }
-    ensures only_memory { IsOkUnless result Fault.OutOfMemory }
-{
-    copied_attributes();
-    let settings = settings_of(demand)?;
-    let allow = demand.allow.clone()?;
-    AggregateStream::new(
-        alloc,
-        hasher,
-        settings,
-        demand.identity.signed,
-        temporality,
-        allow,
-        demand.limit,
-        now,
-    )
-}
-
 impl MetricStream {
     /// Makes a stream without records at the moment `now`, in nanoseconds since 1970, for a reader that answered this
     /// temporality.
@@ -104,7 +74,19 @@ impl MetricStream {
         ensures made { IfOk result (λ s. s ≡ new_contents (resets temporality) demand now) }
         ensures only_memory { IsOkUnless result Fault.OutOfMemory }
     {
-        let aggregate = new_aggregate(alloc, hasher, temporality, &demand, now)?;
+        copied_attributes();
+        let settings = settings_of(&demand)?;
+        let allow = demand.allow.clone()?;
+        let aggregate = AggregateStream::new(
+            alloc,
+            hasher,
+            settings,
+            demand.identity.signed,
+            temporality,
+            allow,
+            demand.limit,
+            now,
+        )?;
         Ok(MetricStream { demand, aggregate })
     }
 
