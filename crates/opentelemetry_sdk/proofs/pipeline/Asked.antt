@@ -3,7 +3,7 @@ use Rattle.std.proofs.Common.{◌≡◌, ℕ, ◌==◌, Bool, true, false, cond,
 use Rattle.std.specs.Bool.{beq}
 use Rattle.otel_data.specs.declared.numbers.NumberValue.{NumberValue}
 use Rattle.otel_model_stream.specs.Events.{Event, Handles, held_by, without}
-use Rattle.otel_model_stream.specs.Machine.{Machine, let_go}
+use Rattle.otel_model_stream.specs.Machine.{let_go}
 use Rattle.otel_model_stream.specs.Folds.{Amount}
 use Rattle.otel_model_stream.specs.Sets.{AttributeSet}
 use Rattle.otel_model.specs.Calls.{is_observable}
@@ -79,28 +79,17 @@ module _ (d : Demand) (a : AggregateContents) (is : IsAsked d a) where
       ∙ used-if h (takes_bound value a) (held_by h a.live) (amount_of value) refl
       ∙ λ i. cond (not (is.drains i) && beq (is_signed_value value) (is.signed i)) (with_event (Event.RecordBound h (amount_of value)) held) held
 
--- ======== the end of a handle ========
-module _ (d : Demand) (a : AggregateContents) (h : ℕ) (is : IsAsked d a) where
-  abbrev ended_with : Machine → StreamContents
-  ended_with m = record {
-    stream = record { demand = d; machine = m; start = a.state.start; reported = a.reported; recorded = a.state.recorded; exported = a.state.exported };
-    resets = a.state.resets;
-    pending = None;
-    room = a.room;
-  }
-
-  -- with what the stream has of the handle
-  ended-as : (o : Option AttributeSet) → held_by h a.live ≡ o
+  -- ======== the end of a handle ========
+  -- with what the stream has of it
+  ended-as : (h : ℕ) (o : Option AttributeSet) → held_by h a.live ≡ o
       → contents_of d (record a { state = unbind_at o a.state; live = without h a.live; pending = None })
-      ≡ ended_with (let_go o h (record { table = a.state.map_state.table; live = a.live }))
-  ended-as None e = ap (λ (l : Handles). ended_with (record { table = a.state.map_state.table; live = l })) (without-none h a.live e)
-  ended-as (Some g) e = refl
+      ≡ record held { stream = record held.stream { machine = let_go o h held.stream.machine }; pending = None }
+  ended-as h None e = ap (λ (l : Handles). contents_of d (record a { live = l; pending = None })) (without-none h a.live e)
+  ended-as h (Some g) e = refl
 
-  ended-by : (b : Bool) → a.drains ≡ b → contents_of d (cond b a (stream_after_unbind h a)) ≡ contents_after (change.Unbind h) (contents_of d a)
-  ended-by true e = ap (λ c. cond c (contents_of d a) (with_event (Event.Unbind h) (contents_of d a))) (sym e ∙ is.drains)
-  ended-by false e =
-      ended-as (held_by h a.live) refl
-      ∙ ap (λ c. cond c (contents_of d a) (with_event (Event.Unbind h) (contents_of d a))) (sym e ∙ is.drains)
+  ended-if : (h : ℕ) (b : Bool) → contents_of d (cond b a (stream_after_unbind h a)) ≡ cond b held (with_event (Event.Unbind h) held)
+  ended-if h true = refl
+  ended-if h false = ended-as h (held_by h a.live) refl
 
-  pub unbind-as : (new : AggregateContents) → new ≡ any_after_unbind h a → contents_of d new ≡ contents_after (change.Unbind h) (contents_of d a)
-  unbind-as new e = ap (contents_of d) e ∙ ended-by a.drains refl
+  pub unbind-as : (new : AggregateContents) (h : ℕ) → new ≡ any_after_unbind h a → contents_of d new ≡ contents_after (change.Unbind h) held
+  unbind-as new h e = ap (contents_of d) e ∙ ended-if h a.drains ∙ ap (λ b. cond b held (with_event (Event.Unbind h) held)) is.drains

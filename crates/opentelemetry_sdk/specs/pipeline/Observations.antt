@@ -10,7 +10,7 @@ use Rattle.otel_model.specs.Demands.{Demand}
 use Rattle.otel_model.specs.State.{ReaderPart}
 use Rattle.otel_model.specs.Streams.{aggregate_of}
 use Rattle.opentelemetry_sdk.specs.pipeline.Pipelines.{FeedsType, all_without_pending, changed_each}
-use Rattle.opentelemetry_sdk.specs.pipeline.Streams.{StreamContents, contents_after_record}
+use Rattle.opentelemetry_sdk.specs.pipeline.Streams.{StreamContents, contents_after_record, without_pending}
 
 -- an observation in the words of the model
 abbrev pub observed_of : Observed → model.Observed
@@ -48,18 +48,11 @@ pub record IsDraftOf (d : DraftContents) (demand : Demand) : Type 0 where
 -- the stream with what its draft has in place of its own, if it has a draft; in any case nothing is prepared, and no
 -- room is made
 abbrev pub drafted : Option DraftContents → StreamContents → StreamContents
-drafted d h = record {
-  stream = record {
-    demand = h.stream.demand;
-    machine = record { table = or_else (option_map (λ x. x.table) d) h.stream.machine.table; live = h.stream.machine.live };
-    start = h.stream.start;
-    reported = h.stream.reported;
+drafted d h = record (without_pending h) {
+  stream = record h.stream {
+    machine = record h.stream.machine { table = or_else (option_map (λ x. x.table) d) h.stream.machine.table };
     recorded = or_else (option_map (λ x. x.recorded) d) h.stream.recorded;
-    exported = h.stream.exported;
   };
-  resets = h.resets;
-  pending = None;
-  room = false;
 }
 
 -- the same for each stream of a list

@@ -114,7 +114,7 @@ contents_after_record value l h = cond (beq (is_signed_value value) h.stream.dem
 
 -- the stream, with nothing prepared and no room made
 abbrev pub without_pending : StreamContents → StreamContents
-without_pending h = record { stream = h.stream; resets = h.resets; pending = None; room = false }
+without_pending h = record h { pending = None; room = false }
 
 -- ======== handles ========
 -- after a bind of the set as this handle, if there is a set; it uses the room
@@ -155,18 +155,13 @@ shown_values h = cond (shows_added h) (map (difference h.stream.reported) (shown
 
 -- the stream after a collection at a moment
 abbrev pub contents_after_collection : ℕ → StreamContents → StreamContents
-contents_after_collection now h = record {
-  stream = record {
-    demand = h.stream.demand;
+contents_after_collection now h = record h {
+  stream = record h.stream {
     machine = machine_after_collection (window_of h) h.stream.machine;
     start = cond h.resets now h.stream.start;
     reported = cond (shows_added h) (shown_points h) h.stream.reported;
-    recorded = h.stream.recorded;
     exported = cond h.resets (wrap (h.stream.exported + points_total (shown_points h))) h.stream.exported;
   };
-  resets = h.resets;
-  pending = h.pending;
-  room = h.room;
 }
 
 -- the metric that a collection at a moment gives of the stream, with or without points
