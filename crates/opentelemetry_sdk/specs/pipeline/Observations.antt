@@ -1,6 +1,6 @@
 -- How a collection takes observations in, and the drafts that it takes them into (Metrics SDK, "Observations inside
 -- asynchronous callbacks").
-use Rattle.std.specs.Prelude.{◌≡◌, ℕ, Bool, true, false, List, [], ◌∷◌, fold, All, Option, None, Some, IfSome, slice_get}
+use Rattle.std.specs.Prelude.{◌≡◌, ℕ, true, List, [], ◌∷◌, fold, All, Option, Some, IfSome, slice_get}
 use Rattle.std.specs.Option.{option_map}
 use Rattle.otel_stream.specs.declared.observation.Observed.{Observed}
 use Rattle.otel_aggregate.specs.Any.{DraftContents, form_of, is_signed_value, amount_of}

@@ -192,7 +192,11 @@ impl MetricStream {
     ///
     /// A new draft gets copies of the entries, which share their sets. The stream goes on with the entries themselves,
     /// and the memory that they have for more.
-    fn enter_draft(&mut self, alloc: Global, draft: &mut Option<AggregateDraft>) -> Result<(), Fault>
+    fn enter_draft(
+        &mut self,
+        alloc: Global,
+        draft: &mut Option<AggregateDraft>,
+    ) -> Result<(), Fault>
         requires observable { is_observable self.old.stream.demand.identity.kind ≡ true }
         requires fits { IfSome draft.old (λ d. IsDraftOf d self.old.stream.demand) }
         ensures stream { without_pending self.new ≡ drafted draft.old self.old }
