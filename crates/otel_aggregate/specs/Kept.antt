@@ -68,8 +68,8 @@ abbrev pub IsReportedOf : Form → MapState → List Link → Bool → Option Ma
 IsReportedOf form m links room None = Unit
 IsReportedOf form m links room (Some r) = (drained_map r ≡ drained_map m) × (links ≡ []) × (room ≡ false) × (form ≡ LastValues)
 
--- a stream has these parts: handles lead to entries, which count them; there is room for one more if it is made; the map
--- keeps what is of the form and the number type; and what was reported goes with the map
+-- a stream has these parts: handles lead to entries, which count them; there is room for one more if it is made; the
+-- map keeps what is of the form and the number type; and what was reported goes with the map
 abbrev pub IsKeptStream : Bool → Form → MapContents → Linked → Bool → Option MapState → Type 0
 IsKeptStream is_signed form map live room reported =
     AllByRecursion (IsLinked map.numbers) live.entries
