@@ -38,7 +38,6 @@ pub(crate) mod change;
 mod collecting;
 pub mod defaults;
 pub mod demands;
-mod draft;
 mod each_stream;
 mod metric_stream;
 mod observing;

@@ -1,18 +1,16 @@
 -- What a stream of any aggregate keeps stays of its form and number type.
-use Rattle.std.proofs.Common.{◌≡◌, ◌∙◌, refl, ap, sym, subst, ℕ, Bool, true, false, cond, List, [], ◌∷◌, map, filter, Option, Some, None, is_some, Result, Ok, Err, true≢false}
+use Rattle.std.proofs.Common.{◌≡◌, ◌∙◌, refl, ap, sym, subst, ℕ, Bool, true, false, cond, List, [], ◌∷◌, filter, Option, Some, None, is_some, true≢false}
 use Rattle.std.specs.Prelude.{Box}
 use Rattle.std.specs.declared.alloc.Global.{Global}
-use Rattle.std.specs.Prelude.{ℤ, ◌||◌, nat_lt, OnOk, OnErr, IsSome}
+use Rattle.std.specs.Prelude.{ℤ, ◌||◌, nat_lt}
 use Rattle.std.proofs.lemmas.Bool.{cond_both}
 use Rattle.std.specs.List.{AllByRecursion}
-use Rattle.otel_common.specs.Canonical.{canon}
 use Rattle.otel_common.specs.Equality.{set_eq}
-use Rattle.otel_common.specs.declared.attributes.KeyValue.{KeyValue}
 use Rattle.otel_model_stream.specs.Sets.{AttributeSet, none_set, over_set}
 use Rattle.otel_model_stream.specs.Folds.{Sample, Fold, Total, Last, Spreads, record_fold, clear_fold, empty_of, lesser, greater}
-use Rattle.otel_model_stream.specs.Entries.{Entry, Point, Table, new_entry, is_of, has, number_counted, entries_with_place, entry_for, on, write, take_handle, drop_handle, reset, stays, points, point_of_entry}
-use Rattle.otel_model_stream.specs.Maps.{MapState, KnownMap, new_map, measured_map, measured_list, bound_map, updated_bound, unbound_map, evicted_map, drained_map}
-use Rattle.otel_aggregate.specs.value_map.Contents.{MapContents, known_of}
+use Rattle.otel_model_stream.specs.Entries.{Entry, Point, Table, new_entry, is_of, has, number_counted, entries_with_place, entry_for, on, write, place, take_handle, drop_handle, reset, stays, points, point_of_entry}
+use Rattle.otel_model_stream.specs.Maps.{MapState, new_map, bound_map, updated_bound, unbound_map, evicted_map, drained_map}
+use Rattle.otel_aggregate.specs.value_map.Contents.{MapContents}
 use Rattle.otel_aggregate.specs.value_map.Slots.{HasForm}
 use Rattle.otel_aggregate.specs.declared.settings.AnySettings.{AnySettings}
 use Rattle.otel_aggregate.specs.declared.settings.AnySettings.TheVariants as kinds
@@ -20,7 +18,7 @@ use Rattle.otel_aggregate.specs.Any.{Form, form_of, aggregate_of, drains_of}
 use Rattle.otel_aggregate.specs.Kept.{form_of_fold, IsWithin, IsWithinIfSome, IsKept, AreKept, IsKeptMap, IsReportedOf, AreShowable, state_of}
 use Rattle.otel_aggregate.specs.Links.{Link}
 use Rattle.otel_aggregate.proofs.All.{all-map, all-append, all-filter}
-use Rattle.otel_aggregate.proofs.ObservedLemmas.{drained-measured, drained-exchanged}
+use Rattle.otel_aggregate.proofs.ObservedLemmas.{drained-exchanged}
 
 -- ======== folds ========
 within-lesser : (s : Bool) (o : Option ℤ) (z : ℤ) → IsWithin s z → IsWithinIfSome s o → IsWithinIfSome s (lesser o z)
@@ -58,18 +56,14 @@ all-placed s k limit empty set es none all =
 kept-on : (s : Bool) (k : Form) (g : AttributeSet) (h : Entry → Entry) → ((e : Entry) → IsKept s k e.fold → IsKept s k (h e).fold) → (e : Entry) → IsKept s k e.fold → IsKept s k (on g h e).fold
 kept-on s k g h one e kept = cond_both (is_of g e) (h e) e (KeepsOf s k) (λ q. one e kept) (λ q. kept)
 
-kept-written : (s : Bool) (k : Form) (g : AttributeSet) (v : Sample) → IsWithin s v.wide → (t : Table) (es : List Entry) → IsKept s k t.none.fold → All s k es → AreKept s k (record { none = on g (write v) t.none; entries = map (on g (write v)) es })
-kept-written s k g v w t es none all =
-    let one : (e : Entry) → IsKept s k e.fold → IsKept s k (on g (write v) e).fold = kept-on s k g (write v) (λ (e : Entry). λ (h : IsKept s k e.fold). kept-recorded s k e.fold v w h) in
-    (one t.none none, all-map (KeepsOf s k) (KeepsOf s k) (on g (write v)) one es all)
-
 -- ======== maps ========
-pub kept-measured : (s : Bool) (k : Form) (set : AttributeSet) (v : Sample) (m : MapState) → IsWithin s v.wide → IsKeptMap s k m → IsKeptMap s k (measured_map set v m)
-kept-measured s k set v m w h =
-    (h.0, kept-written s k _ v w m.table (entries_with_place m.limit m.empty set m.table.entries) h.1.0 (all-placed s k m.limit m.empty set m.table.entries h.0 h.1.1))
+pub kept-placed : (s : Bool) (k : Form) (set : AttributeSet) (m : MapState) → IsKeptMap s k m → IsKeptMap s k (record m { table = place m.limit m.empty set m.table })
+kept-placed s k set m h = (h.0, (h.1.0, all-placed s k m.limit m.empty set m.table.entries h.0 h.1.1))
 
 pub kept-updated : (s : Bool) (k : Form) (g : AttributeSet) (v : Sample) (m : MapState) → IsWithin s v.wide → IsKeptMap s k m → IsKeptMap s k (updated_bound g v m)
-kept-updated s k g v m w h = (h.0, kept-written s k g v w m.table m.table.entries h.1.0 h.1.1)
+kept-updated s k g v m w h =
+    let one : (e : Entry) → IsKept s k e.fold → IsKept s k (on g (write v) e).fold = kept-on s k g (write v) (λ (e : Entry). λ (x : IsKept s k e.fold). kept-recorded s k e.fold v w x) in
+    (h.0, (one m.table.none h.1.0, all-map (KeepsOf s k) (KeepsOf s k) (on g (write v)) one m.table.entries h.1.1))
 
 pub kept-bound : (s : Bool) (k : Form) (set : AttributeSet) (m : MapState) → IsKeptMap s k m → IsKeptMap s k (bound_map set m)
 kept-bound s k set m h =
@@ -88,25 +82,6 @@ kept-evicted s k m h =
 
 pub kept-drained : (s : Bool) (k : Form) (m : MapState) → IsKeptMap s k m → IsKeptMap s k (drained_map m)
 kept-drained s k m h = (h.0, (kept-cleared s k m.table.none.fold h.1.0, tt))
-
--- ======== steps of a map ========
--- a record of the set that is prepared
-pub kept-prepared : (s : Bool) (k : Form) (old new : MapState) (pending : Option AttributeSet) (v : Sample) → IsWithin s v.wide → IsSome pending → ((x : AttributeSet) → pending ≡ Some x → new ≡ measured_map x v old) → IsKeptMap s k old → IsKeptMap s k new
-kept-prepared s k old new None v w some is h = absurd (true≢false (sym some))
-kept-prepared s k old new (Some x) v w some is h = subst (IsKeptMap s k) (sym (is x refl)) (kept-measured s k x v old w h)
-
-pub drained-prepared : (old new : MapState) (pending : Option AttributeSet) (v : Sample) → IsSome pending → ((x : AttributeSet) → pending ≡ Some x → new ≡ measured_map x v old) → drained_map new ≡ drained_map old
-drained-prepared old new None v some is = absurd (true≢false (sym some))
-drained-prepared old new (Some x) v some is = ap drained_map (is x refl) ∙ drained-measured x v old
-
--- a record of attributes, unless it is refused
-pub kept-listed : {T E : Type 0} (s : Bool) (k : Form) (old new : MapContents) (l : List KeyValue) (v : Sample) (r : Result T E) → OnOk r (known_of new ≡ measured_list l v (known_of old)) → OnErr r (known_of new ≡ known_of old) → IsWithin s v.wide → IsKeptMap s k old.state → IsKeptMap s k new.state
-kept-listed s k old new l v (Ok t) is same w h = subst (λ (x : KnownMap). IsKeptMap s k x.map_state) (sym is) (kept-measured s k (canon l) v old.state w h)
-kept-listed s k old new l v (Err e) is same w h = subst (λ (x : KnownMap). IsKeptMap s k x.map_state) (sym same) h
-
-pub drained-listed : {T E : Type 0} (old new : MapContents) (l : List KeyValue) (v : Sample) (r : Result T E) → OnOk r (known_of new ≡ measured_list l v (known_of old)) → OnErr r (known_of new ≡ known_of old) → drained_map new.state ≡ drained_map old.state
-drained-listed old new l v (Ok t) is same = ap (λ (x : KnownMap). drained_map x.map_state) is ∙ drained-measured (canon l) v old.state
-drained-listed old new l v (Err e) is same = ap (λ (x : KnownMap). drained_map x.map_state) same
 
 -- ======== a new stream ========
 kept-new : (s : Bool) (settings : AnySettings) (limit : ℕ) → IsKeptMap s (form_of (aggregate_of settings)) (new_map limit (empty_of (aggregate_of settings)))

@@ -1,5 +1,5 @@
 -- Where handles lead, and that they lead there still.
-use Rattle.std.proofs.Common.{◌≡◌, ℕ, Bool, true, false, cond, List, [], ◌∷◌, Some, refl, sym, ap, ◌∙◌, nat_eq, arith}
+use Rattle.std.proofs.Common.{◌≡◌, ℕ, Bool, true, false, cond, List, [], ◌∷◌, Some, refl, sym, ap, subst, ◌∙◌, nat_eq, arith}
 use Rattle.std.specs.Prelude.{◌==◌}
 use Rattle.std.specs.List.{AllByRecursion}
 use Rattle.std.specs.Map.{lookup, remove_entry}
@@ -18,20 +18,27 @@ use Rattle.otel_aggregate.specs.Links.{Link, handle_of, handles_of, IsLinked}
 abbrev pub IsLinkedStill : Numbers → Numbers → Link → Type 0
 IsLinkedStill old new p = number_of (set_named p.1 old) new ≡ Some p.1
 
-pub still-kept : (old new : Numbers) → KeepNumbers old new → (ps : List Link) → AllByRecursion (IsLinked old) ps → AllByRecursion (IsLinkedStill old new) ps
-still-kept old new keep ps h = all-each (IsLinked old) (IsLinkedStill old new) (λ p. keep (set_named p.1 old) p.1) ps h
-
 pub still-left : (left : List Entry) (old new : Numbers) → KeepLeft left old new → (ps : List Link) → AllByRecursion (IsLinked old) ps
     → AllByRecursion (λ (q : ℕ × AttributeSet). is_placed q.1 left ≡ true) (handles_of old ps) → AllByRecursion (IsLinkedStill old new) ps
 still-left left old new keep [] h placed = tt
 still-left left old new keep (p ∷ ps) h placed = (keep (set_named p.1 old) p.1 h.0 placed.0, still-left left old new keep ps h.1 placed.1)
 
-pub handles-still : (old new : Numbers) → AreNamed new → (ps : List Link) → AllByRecursion (IsLinkedStill old new) ps → handles_of new ps ≡ handles_of old ps
+handles-still : (old new : Numbers) → AreNamed new → (ps : List Link) → AllByRecursion (IsLinkedStill old new) ps → handles_of new ps ≡ handles_of old ps
 handles-still old new named [] h = refl
 handles-still old new named (p ∷ ps) h = λ i. (p.0, named (set_named p.1 old) p.1 h.0 i) ∷ handles-still old new named ps h.1 i
 
-pub linked-still : (old new : Numbers) → AreNamed new → (ps : List Link) → AllByRecursion (IsLinkedStill old new) ps → AllByRecursion (IsLinked new) ps
-linked-still old new named ps h = all-each (IsLinkedStill old new) (IsLinked new) (λ p q. ap (λ (s : AttributeSet). number_of s new) (named (set_named p.1 old) p.1 q) ∙ q) ps h
+-- handles lead to entries, and to the same sets as before
+abbrev pub LeadStill : Numbers → Numbers → List Link → Type 0
+LeadStill old new ps = AllByRecursion (IsLinked new) ps × (handles_of new ps ≡ handles_of old ps)
+
+pub lead-still : (old new : Numbers) → AreNamed new → (ps : List Link) → AllByRecursion (IsLinkedStill old new) ps → LeadStill old new ps
+lead-still old new named ps h = (all-each (IsLinkedStill old new) (IsLinked new) (λ p q. ap (λ (s : AttributeSet). number_of s new) (named (set_named p.1 old) p.1 q) ∙ q) ps h, handles-still old new named ps h)
+
+pub lead-kept : (old new : Numbers) → KeepNumbers old new → AreNamed new → (ps : List Link) → AllByRecursion (IsLinked old) ps → LeadStill old new ps
+lead-kept old new keep named ps linked = lead-still old new named ps (all-each (IsLinked old) (IsLinkedStill old new) (λ p. keep (set_named p.1 old) p.1) ps linked)
+
+pub lead-same : (old new : Numbers) → new ≡ old → (ps : List Link) → AllByRecursion (IsLinked old) ps → LeadStill old new ps
+lead-same old new same ps linked = (subst (λ (ns : Numbers). AllByRecursion (IsLinked ns) ps) (sym same) linked, ap (λ ns. handles_of ns ps) same)
 
 -- ======== one handle ========
 test-flip : (a b : ℕ) → (a == b) ≡ nat_eq b a

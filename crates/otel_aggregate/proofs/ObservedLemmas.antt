@@ -7,8 +7,8 @@ use Rattle.otel_common.specs.declared.metrics.Temporality.{Temporality}
 use Rattle.otel_data.specs.declared.points.SumDataPoint.{SumDataPoint}
 use Rattle.otel_model_stream.specs.Sets.{AttributeSet, none_set}
 use Rattle.otel_model_stream.specs.Folds.{Sample, Fold, Total, Last, Spreads, clear_fold}
-use Rattle.otel_model_stream.specs.Entries.{Entry, Point, Table, is_of, on, write, reset, entry_for, entries_with_place}
-use Rattle.otel_model_stream.specs.Maps.{MapState, measured_map, drained_map}
+use Rattle.otel_model_stream.specs.Entries.{Entry, Point, Table, is_of, on, write, reset}
+use Rattle.otel_model_stream.specs.Maps.{MapState, updated_bound, drained_map}
 use Rattle.otel_model_stream.specs.Observed.{fold_in, value_before, difference}
 use Rattle.otel_model_stream.specs.Totals.{value_of}
 use Rattle.otel_model_stream.specs.Data.{sum_point}
@@ -24,8 +24,8 @@ reset-on : (g : AttributeSet) (v : Sample) (e : Entry) → reset (on g (write v)
 reset-on g v e = cond_both (is_of g e) (write v e) e (λ x. reset x ≡ reset e) (λ q. ap (λ f. record e { updated = false; fold = f }) (cleared-recorded e.fold v)) (λ q. refl)
 
 -- a map is drained to the same with a record more
-pub drained-measured : (s : AttributeSet) (v : Sample) (m : MapState) → drained_map (measured_map s v m) ≡ drained_map m
-drained-measured s v m = ap (λ (none : Entry). record m { table = record { none = none; entries = [] } }) (reset-on (entry_for s (entries_with_place m.limit m.empty s m.table.entries)) v m.table.none)
+pub drained-updated : (g : AttributeSet) (v : Sample) (m : MapState) → drained_map (updated_bound g v m) ≡ drained_map m
+drained-updated g v m = ap (λ (none : Entry). record m { table = record { none = none; entries = [] } }) (reset-on g v m.table.none)
 
 -- a last value is forgotten
 cleared-last : (f : Fold) → form_of_fold f ≡ LastValues → clear_fold f ≡ Last 0

@@ -1,5 +1,5 @@
 -- What a map's steps leave of what is known of its handles.
-use Rattle.std.proofs.Common.{◌≡◌, ℕ, Bool, true, false, cond, ◌&&◌, ◌||◌, List, [], ◌∷◌, ◌++◌, Option, Some, None, Result, Ok, Err, is_some, refl, sym, ap, subst, ◌∙◌, nat_eq, true≢false}
+use Rattle.std.proofs.Common.{◌≡◌, ℕ, Bool, true, false, cond, not, ◌&&◌, ◌||◌, ◌+◌, List, [], ◌∷◌, ◌++◌, Option, Some, None, Result, Ok, Err, ◌⊎◌, inl, inr, is_some, refl, sym, ap, subst, ◌∙◌, nat_eq, true≢false}
 use Rattle.std.specs.Prelude.{IsSome, OnOk, OnErr, is_none, ◌==◌}
 use Rattle.std.specs.List.{AllByRecursion}
 use Rattle.std.specs.Map.{lookup}
@@ -8,34 +8,65 @@ use Rattle.std.proofs.lemmas.List.{map-append}
 use Rattle.otel_common.specs.Canonical.{canon}
 use Rattle.otel_common.specs.Equality.{set_eq}
 use Rattle.otel_common.specs.declared.attributes.KeyValue.{KeyValue}
+use Rattle.otel_data.specs.declared.numbers.NumberValue.{NumberValue}
 use Rattle.otel_model_stream.specs.Sets.{AttributeSet, AllowList, none_set, set_of}
-use Rattle.otel_model_stream.specs.Folds.{Amount, Sample, sample_of}
+use Rattle.otel_model_stream.specs.Folds.{Amount, Sample, sample_of, wrap}
 use Rattle.otel_model_stream.specs.Events.{Handles, held_by, without}
-use Rattle.otel_model_stream.specs.Entries.{Table, entry_for, place, take_handle}
-use Rattle.otel_model_stream.specs.Maps.{MapState, KnownMap, measured_map, measured_list, bound_map, bound_to, updated_bound, unbound_map, evicted_map}
+use Rattle.otel_model_stream.specs.Entries.{Table, entry_for, place, points, take_handle}
+use Rattle.otel_model_stream.specs.Maps.{MapState, KnownMap, measured_map, measured_list, bound_map, bound_to, drained_map, updated_bound, unbound_map, evicted_map}
+use Rattle.otel_model_stream.specs.Totals.{size, points_total}
 use Rattle.otel_aggregate.specs.value_map.Contents.{MapContents, known_of}
 use Rattle.otel_aggregate.specs.value_map.Numbers.{Numbers, number_of, set_named, is_placed, KeepNumbers, AreNamed, AreNumbered}
-use Rattle.otel_aggregate.specs.Links.{Link, handle_of, handles_of, IsLinked, AreHeld}
-use Rattle.otel_aggregate.specs.Any.{any_after_collection, observed_in, with_observed}
+use Rattle.otel_aggregate.specs.Links.{Link, Linked, handle_of, handles_of, IsLinked, AreHeld}
+use Rattle.otel_aggregate.specs.Any.{amount_of, any_after_collection, form_of, observed_in, with_observed}
+use Rattle.otel_aggregate.specs.Kept.{IsKeptMap, IsKeptStream, IsWithin}
 use Rattle.otel_aggregate.specs.Observed.{drained_at}
-use Rattle.otel_aggregate.specs.Streams.{AggregateContents, recorded_set, recorded_attributes, taken_from, stream_after_commit, bind_of, stream_after_bind, update_at, stream_after_update, unbind_at, stream_after_unbind}
+use Rattle.otel_aggregate.specs.Streams.{AggregateContents, points_now, recorded_set, recorded_attributes, taken_from, stream_after_commit, bind_of, stream_after_bind, update_at, stream_after_update, unbind_at, stream_after_unbind}
 use Rattle.otel_aggregate.proofs.All.{all-append}
-use Rattle.otel_aggregate.proofs.LinkLemmas.{IsLinkedStill, still-kept, handles-still, linked-still, held-linked}
+use Rattle.otel_aggregate.proofs.KeptLemmas.{kept-placed, kept-updated, reported-same}
+use Rattle.otel_aggregate.proofs.ObservedLemmas.{drained-updated}
+use Rattle.otel_aggregate.proofs.LinkLemmas.{LeadStill, lead-kept, held-linked}
 use Rattle.otel_aggregate.proofs.value_map.TableLemmas.{is_some-map}
 use Rattle.otel_aggregate.proofs.HandleLemmas.{has-on, held-written, held-taken, held-placed}
 
--- a record of the set that is prepared
-pub held-measured : (old new : MapState) (hs : Handles) (pending : Option AttributeSet) (v : Sample) → IsSome pending → ((s : AttributeSet) → pending ≡ Some s → new ≡ measured_map s v old) → AreHeld old.table hs → AreHeld new.table hs
-held-measured old new hs None v some is held = absurd (true≢false (sym some))
-held-measured old new hs (Some s) v some is held =
-    let placed : Table = place old.limit old.empty s old.table in
-    subst (λ (m : MapState). AreHeld m.table hs) (sym (is s refl)) (held-written placed hs (entry_for s placed.entries) v (held-placed old.limit old.empty s old.table hs held))
+-- ======== a record ========
+-- a record of this sample is made, under some set or of some set's entry, or none is made
+abbrev pub IsRecordOf : Sample → MapState → MapState → Type 0
+IsRecordOf v old new = (new ≡ old) ⊎ ((s : AttributeSet) × ((new ≡ measured_map s v old) ⊎ (new ≡ updated_bound s v old)))
 
--- a record of a list of attributes, unless it is refused
-pub held-listed : {T E : Type 0} (old new : MapContents) (l : List KeyValue) (v : Sample) (hs : Handles) (r : Result T E) → OnOk r (known_of new ≡ measured_list l v (known_of old)) → OnErr r (known_of new ≡ known_of old) → AreHeld old.state.table hs → AreHeld new.state.table hs
-held-listed old new l v hs (Ok t) is same held =
-    held-measured old.state new.state hs (Some (canon l)) v refl (λ s e. (let one : canon l ≡ s = cc in ap (λ (k : KnownMap). k.map_state) is ∙ ap (λ (x : AttributeSet). measured_map x v old.state) one)) held
-held-listed old new l v hs (Err e) is same held = subst (λ (k : KnownMap). AreHeld k.map_state.table hs) (sym same) held
+pub of-prepared : (old new : MapState) (pending : Option AttributeSet) (v : Sample) → IsSome pending → ((s : AttributeSet) → pending ≡ Some s → new ≡ measured_map s v old) → IsRecordOf v old new
+of-prepared old new None v some is = absurd (true≢false (sym some))
+of-prepared old new (Some s) v some is = inr (s, inl (is s refl))
+
+pub of-listed : {T E : Type 0} (old new : MapContents) (l : List KeyValue) (v : Sample) (r : Result T E) → OnOk r (known_of new ≡ measured_list l v (known_of old)) → OnErr r (known_of new ≡ known_of old) → IsRecordOf v old.state new.state
+of-listed old new l v (Ok t) is same = inr (canon l, inl (ap (λ (k : KnownMap). k.map_state) is))
+of-listed old new l v (Err e) is same = inl (ap (λ (k : KnownMap). k.map_state) same)
+
+-- the parts of a stream go together still if its handles lead where they led
+pub stream-recorded : {s now : AggregateContents} → s ≡ now → (value : NumberValue) (v : Sample) (was new : MapContents) (live : Linked) (reported : Option MapState) → IsWithin now.is_signed (amount_of value).wide → v ≡ sample_of s.state.aggregate (amount_of value)
+    → IsRecordOf v was.state new.state → LeadStill was.numbers new.numbers live.entries → IsKeptStream s.is_signed (form_of s.state.aggregate) was live s.room reported → IsKeptStream s.is_signed (form_of s.state.aggregate) new live s.room reported
+stream-recorded {s} {now} seen value v was new live reported within sampled made lead h =
+    let is = by made in
+    (lead.0, subst (AreHeld new.state.table) (sym lead.1) is.0, h.2, is.1, reported-same (form_of s.state.aggregate) was.state new.state live.entries s.room reported is.2 h.4)
+  where
+    Kept : MapState → Type 0
+    Kept m = AreHeld m.table (handles_of was.numbers live.entries) × IsKeptMap s.is_signed (form_of s.state.aggregate) m × (drained_map m ≡ drained_map was.state)
+
+    wide : IsWithin s.is_signed v.wide
+    wide = subst (λ (x : Sample). IsWithin s.is_signed x.wide) (sym sampled) (subst (λ (a : AggregateContents). IsWithin a.is_signed (amount_of value).wide) (sym seen) within)
+
+    updated : (g : AttributeSet) (m : MapState) → Kept m → Kept (updated_bound g v m)
+    updated g m x = (held-written m.table (handles_of was.numbers live.entries) g v x.0, kept-updated s.is_signed (form_of s.state.aggregate) g v m wide x.1, drained-updated g v m ∙ x.2)
+
+    by : IsRecordOf v was.state new.state → Kept new.state
+    by (inl e) = subst Kept (sym e) (h.1, h.3, refl)
+    by (inr w) = elim w.1 [
+      | inl e ↦
+          let m : MapState = was.state in
+          let placed : MapState = record m { table = place m.limit m.empty w.0 m.table } in
+          subst Kept (sym e) (updated (entry_for w.0 placed.table.entries) placed (held-placed m.limit m.empty w.0 m.table (handles_of was.numbers live.entries) h.1, kept-placed s.is_signed (form_of s.state.aggregate) w.0 m h.3, refl))
+      | inr e ↦ subst Kept (sym e) (updated w.0 was.state (h.1, h.3, refl))
+    ]
 
 -- ======== in a stream that takes the value ========
 -- what is done to a stream of the value's number type
@@ -47,30 +78,30 @@ pub if-undrained : {X : Type 0} {b : Bool} {new x : X} (old : X) → b ≡ false
 if-undrained {X} {b} {new} {x} old e is = is ∙ sym (ap (λ t. cond t old x) e)
 
 -- once the record that was prepared is made
-pub taken-made : {s old : AggregateContents} → s ≡ old → (v : Amount) (w : Sample) (after : MapState) (live : Handles) (pending : Option AttributeSet) → IsSome s.pending → w ≡ sample_of s.state.aggregate v
-    → ((x : AttributeSet) → s.pending ≡ Some x → after ≡ measured_map x w s.state.map_state) → live ≡ s.live → pending ≡ None
-    → record s { state = record s.state { map_state = after }; live = live; pending = pending } ≡ stream_after_commit v old
-taken-made {s} {old} was v w after live pending some sampled is same spent = by s.pending refl some ∙ ap (stream_after_commit v) was
+pub taken-made : {s old : AggregateContents} → s ≡ old → (v : Amount) (w : Sample) (after : MapState) (live : Handles) (pending : Option AttributeSet) (total : ℕ) → IsSome s.pending → w ≡ sample_of s.state.aggregate v
+    → ((x : AttributeSet) → s.pending ≡ Some x → after ≡ measured_map x w s.state.map_state) → live ≡ s.live → pending ≡ None → total ≡ wrap (s.state.recorded + size s.state.aggregate v)
+    → record s { state = record s.state { map_state = after; recorded = total }; live = live; pending = pending } ≡ stream_after_commit v old
+taken-made {s} {old} was v w after live pending total some sampled is same spent counted = by s.pending refl some ∙ ap (stream_after_commit v) was
   where
-    by : (o : Option AttributeSet) → s.pending ≡ o → IsSome o → record s { state = record s.state { map_state = after }; live = live; pending = pending } ≡ stream_after_commit v s
+    by : (o : Option AttributeSet) → s.pending ≡ o → IsSome o → record s { state = record s.state { map_state = after; recorded = total }; live = live; pending = pending } ≡ stream_after_commit v s
     by None e t = absurd (true≢false (sym t))
     by (Some x) e t =
-        (λ i. record s { state = record s.state { map_state = (is x e ∙ ap (λ z. measured_map x z s.state.map_state) sampled) i }; live = same i; pending = spent i })
+        (λ i. record s { state = record s.state { map_state = (is x e ∙ ap (λ z. measured_map x z s.state.map_state) sampled) i; recorded = counted i }; live = same i; pending = spent i })
         ∙ sym (ap (λ o. taken_from o v s) e)
 
 -- once a record of attributes is made where there is no allow-list
-pub listed-made : {s old : AggregateContents} → s ≡ old → (v : Amount) (w : Sample) (l : List KeyValue) (before after : MapContents) (live : Handles) (pending : Option AttributeSet) → is_some s.state.allow ≡ false → before.state ≡ s.state.map_state
-    → w ≡ sample_of s.state.aggregate v → known_of after ≡ measured_list l w (known_of before) → live ≡ s.live → pending ≡ None
-    → record s { state = record s.state { map_state = after.state }; live = live; pending = pending } ≡ record old { state = recorded_attributes l v old.state; pending = None }
-listed-made {s} {old} was v w l before after live pending whole at sampled is same spent =
-    (λ i. record s { state = record s.state { map_state = map_is i }; live = same i; pending = spent i })
+pub listed-made : {s old : AggregateContents} → s ≡ old → (v : Amount) (w : Sample) (l : List KeyValue) (before after : MapContents) (live : Handles) (pending : Option AttributeSet) (total : ℕ) → is_some s.state.allow ≡ false → before.state ≡ s.state.map_state
+    → w ≡ sample_of s.state.aggregate v → known_of after ≡ measured_list l w (known_of before) → live ≡ s.live → pending ≡ None → total ≡ wrap (s.state.recorded + size s.state.aggregate v)
+    → record s { state = record s.state { map_state = after.state; recorded = total }; live = live; pending = pending } ≡ record old { state = recorded_attributes l v old.state; pending = None }
+listed-made {s} {old} was v w l before after live pending total whole at sampled is same spent counted =
+    (λ i. record s { state = record s.state { map_state = map_is i; recorded = counted i }; live = same i; pending = spent i })
     ∙ by s.state.allow whole
     ∙ ap (λ (x : AggregateContents). record x { state = recorded_attributes l v x.state; pending = None }) was
   where
     map_is : after.state ≡ measured_map (canon l) (sample_of s.state.aggregate v) s.state.map_state
     map_is = ap (λ (k : KnownMap). k.map_state) is ∙ λ i. measured_map (canon l) (sampled i) (at i)
 
-    by : (allow : AllowList) → is_some allow ≡ false → record s { state = record s.state { map_state = measured_map (canon l) (sample_of s.state.aggregate v) s.state.map_state }; pending = None } ≡ record s { state = recorded_set (set_of allow l) v s.state; pending = None }
+    by : (allow : AllowList) → is_some allow ≡ false → record s { state = recorded_set (canon l) v s.state; pending = None } ≡ record s { state = recorded_set (set_of allow l) v s.state; pending = None }
     by None e = refl
     by (Some keys) e = absurd (true≢false e)
 
@@ -82,15 +113,15 @@ listed-refused {s} {old} was before after live pending at is same spent =
     ∙ ap (λ (x : AggregateContents). record x { pending = None }) was
 
 -- once a stream that resets has ended a collection
-pub collected-made : {s old : AggregateContents} → s ≡ old → (now : ℕ) (after : MapState) (live : Handles) (pending : Option AttributeSet) → s.drains ≡ false → s.state.resets ≡ true → after ≡ evicted_map s.state.map_state → live ≡ s.live → pending ≡ None
-    → record s { state = record s.state { map_state = after; start = now }; live = live; pending = pending } ≡ any_after_collection now old
-collected-made {s} {old} was now after live pending undrained resets is same spent =
-    (λ i. record s { state = record s.state { map_state = is i; start = now }; live = same i; pending = spent i })
+pub collected-made : {s old : AggregateContents} → s ≡ old → (now : ℕ) (after : MapState) (live : Handles) (pending : Option AttributeSet) (total : ℕ) → s.drains ≡ false → s.state.resets ≡ true → after ≡ evicted_map s.state.map_state → live ≡ s.live → pending ≡ None
+    → total ≡ wrap (s.state.exported + points_total (points false s.state.map_state.table)) → record s { state = record s.state { map_state = after; start = now; exported = total }; live = live; pending = pending } ≡ any_after_collection now old
+collected-made {s} {old} was now after live pending total undrained resets is same spent counted =
+    (λ i. record s { state = record s.state { map_state = is i; start = now; exported = (counted ∙ ap (λ b. wrap (s.state.exported + points_total (points (not b) s.state.map_state.table))) (sym resets)) i }; live = same i; pending = spent i })
     ∙ sym (λ i. record (by_drains (undrained i) (resets i)) { pending = cond (undrained i || resets i) None s.pending })
     ∙ ap (any_after_collection now) was
   where
     by_drains : Bool → Bool → AggregateContents
-    by_drains b c = cond b (with_observed s (drained_at now (observed_in s))) (record s { state = cond c (record s.state { map_state = evicted_map s.state.map_state; start = now }) s.state })
+    by_drains b c = cond b (with_observed s (drained_at now (observed_in s))) (record s { state = cond c (record s.state { map_state = evicted_map s.state.map_state; start = now; exported = wrap (s.state.exported + points_total (points_now s.state)) }) s.state })
 
 -- no handles, no links
 pub no-links : (ns : Numbers) (ps : List Link) → handles_of ns ps ≡ [] → ps ≡ []
@@ -126,7 +157,7 @@ module _ (old new : Numbers) (before after : MapState) (ps : List Link) (h n : �
     set = s;
     prepared = refl;
     state = is;
-    linked = all-append (IsLinked new) ps ((h, n) ∷ []) (linked-still old new named ps still) (ap (λ (x : AttributeSet). number_of x new) name ∙ number, tt);
+    linked = all-append (IsLinked new) ps ((h, n) ∷ []) lead.0 (ap (λ (x : AttributeSet). number_of x new) name ∙ number, tt);
     held = subst (AreHeld after.table) (sym handles)
         (subst (λ (m : MapState). AreHeld m.table (handles_of old ps ++ (h, bound_to s before) ∷ [])) (sym is)
         (held-taken placed (handles_of old ps) h (bound_to s before) there (held-placed before.limit before.empty s before.table (handles_of old ps) held)));
@@ -136,14 +167,14 @@ module _ (old new : Numbers) (before after : MapState) (ps : List Link) (h n : �
       placed : Table
       placed = place before.limit before.empty s before.table
 
-      still : AllByRecursion (IsLinkedStill old new) ps
-      still = still-kept old new keep ps linked
+      lead : LeadStill old new ps
+      lead = lead-kept old new keep named ps linked
 
       name : set_named n new ≡ bound_to s before
       name = named (bound_to s before) n number
 
       handles : handles_of new (ps ++ (h, n) ∷ []) ≡ handles_of old ps ++ (h, bound_to s before) ∷ []
-      handles = map-append (handle_of new) ps ((h, n) ∷ []) ∙ (λ i. handles-still old new named ps still i ++ (h, name i) ∷ [])
+      handles = map-append (handle_of new) ps ((h, n) ∷ []) ∙ (λ i. lead.1 i ++ (h, name i) ∷ [])
 
       there : is_placed (bound_to s before) placed.entries ≡ true
       there =
@@ -184,7 +215,7 @@ no_bind-live s h e = by s.room (held_by h s.live) e
 
 -- ======== a record through a handle, and its end ========
 -- a handle that isn't live
-without-none : (h : ℕ) (hs : Handles) → held_by h hs ≡ None → without h hs ≡ hs
+pub without-none : (h : ℕ) (hs : Handles) → held_by h hs ≡ None → without h hs ≡ hs
 without-none h [] e = refl
 without-none h (p ∷ hs) e = by (p.0 == h) e (without-none h hs)
   where
@@ -192,10 +223,11 @@ without-none h (p ∷ hs) e = by (p.0 == h) e (without-none h hs)
     by true e ih = absurd (cc)
     by false e ih = ap (λ (rs : Handles). p ∷ rs) (ih e)
 
-pub update-made : {s old : AggregateContents} → s ≡ old → (h : ℕ) (g : AttributeSet) (v : Amount) (w : Sample) (after : MapState) (live : Handles) (pending : Option AttributeSet) → held_by h s.live ≡ Some g → w ≡ sample_of s.state.aggregate v
-    → after ≡ updated_bound g w s.state.map_state → live ≡ s.live → pending ≡ None → record s { state = record s.state { map_state = after }; live = live; pending = pending } ≡ stream_after_update h v old
-update-made {s} {old} was h g v w after live pending found sampled is same spent =
-    (λ i. record s { state = record s.state { map_state = (is ∙ ap (λ x. updated_bound g x s.state.map_state) sampled) i }; live = same i; pending = spent i })
+pub update-made : {s old : AggregateContents} → s ≡ old → (h : ℕ) (g : AttributeSet) (v : Amount) (w : Sample) (after : MapState) (live : Handles) (pending : Option AttributeSet) (total : ℕ) → held_by h s.live ≡ Some g → w ≡ sample_of s.state.aggregate v
+    → after ≡ updated_bound g w s.state.map_state → live ≡ s.live → pending ≡ None → total ≡ wrap (s.state.recorded + size s.state.aggregate v)
+    → record s { state = record s.state { map_state = after; recorded = total }; live = live; pending = pending } ≡ stream_after_update h v old
+update-made {s} {old} was h g v w after live pending total found sampled is same spent counted =
+    (λ i. record s { state = record s.state { map_state = (is ∙ ap (λ x. updated_bound g x s.state.map_state) sampled) i; recorded = counted i }; live = same i; pending = spent i })
     ∙ sym (λ i. record s { state = update_at (found i) v s.state; pending = None })
     ∙ ap (stream_after_update h v) was
 

@@ -11,14 +11,13 @@ use Rattle.otel_data.specs.declared.numbers.NumberValue.{NumberValue}
 use Rattle.otel_data.specs.declared.numbers.NumberValue.TheVariants as number
 use Rattle.otel_model_stream.specs.Sets.{none_set}
 use Rattle.otel_model_stream.specs.Folds.{Aggregate, Sum, LastValue, Histogram, Amount}
-use Rattle.otel_model_stream.specs.Entries.{Table, Point}
+use Rattle.otel_model_stream.specs.Entries.{Table}
 use Rattle.otel_model_stream.specs.Events.{held_by}
-use Rattle.otel_model_stream.specs.Maps.{draining_points}
 use Rattle.otel_model_stream.specs.Data.{natural_of, signed_of}
 use Rattle.otel_aggregate.specs.declared.settings.AnySettings.{AnySettings}
 use Rattle.otel_aggregate.specs.declared.settings.AnySettings.TheVariants as settings
 use Rattle.otel_aggregate.specs.Data.{sum_data, gauge_data, histogram_data}
-use Rattle.otel_aggregate.specs.Streams.{AggregateState, AggregateContents, recorded_set, recorded_attributes, points_now, stream_after_collection, stream_after_commit, stream_after_bind, stream_after_update, stream_after_unbind}
+use Rattle.otel_aggregate.specs.Streams.{AggregateState, AggregateContents, recorded_set, recorded_attributes, stream_after_collection, stream_after_commit, stream_after_bind, stream_after_update, stream_after_unbind}
 use Rattle.otel_aggregate.specs.Observed.{ObservedState, drained_at, observed_data}
 
 -- the aggregate of these settings
@@ -64,10 +63,6 @@ any_after_none value a = cond (beq (is_signed_value value) a.is_signed) (record 
 -- after a record of a value with attributes; a stream of the other number type doesn't change
 abbrev pub any_after_record : NumberValue → List KeyValue → AggregateContents → AggregateContents
 any_after_record value l a = cond (beq (is_signed_value value) a.is_signed) (record a { state = recorded_attributes l (amount_of value) a.state; pending = None }) a
-
--- whether the prepared record is made
-abbrev pub is_taken : NumberValue → AggregateContents → Bool
-is_taken value a = beq (is_signed_value value) a.is_signed && is_some a.pending
 
 -- ======== handles ========
 -- with room made for a handle; in a stream of observed sums there is none
@@ -121,10 +116,6 @@ observed_metrics true now a = metrics.I64 (metric.Sum (observed_data signed_of (
 abbrev pub metrics_now : ℕ → AggregateContents → AggregatedMetrics
 metrics_now now a = cond a.drains (observed_metrics a.is_signed now (observed_in a)) (metrics_of a.is_signed now a.state)
 
--- the points that are added up to the total of a collection: of observed sums the values, not the differences shown
-abbrev pub any_points : AggregateContents → List Point
-any_points a = cond a.drains (draining_points a.state.map_state) (points_now a.state)
-
 -- with this stream of observed sums in its place
 abbrev pub with_observed : AggregateContents → ObservedState → AggregateContents
 with_observed a s = record a { state = s.stream; reported = s.reported }
@@ -149,22 +140,23 @@ form_of Sum = Sums
 form_of LastValue = LastValues
 form_of (Histogram bounds has_min_max has_sum) = Spreads
 
--- what a draft has: entries, their number type, and the form of what they keep
+-- what a draft has: entries, their number type, the form of what they keep, and a total of records
 pub record DraftContents : Type 0 where
   pub is_signed : Bool
   pub form : Form
   pub table : Table
+  pub recorded : ℕ
 
 -- a draft with what this stream has
 abbrev pub draft_of : AggregateContents → DraftContents
-draft_of a = record { is_signed = a.is_signed; form = form_of a.state.aggregate; table = a.state.map_state.table }
+draft_of a = record { is_signed = a.is_signed; form = form_of a.state.aggregate; table = a.state.map_state.table; recorded = a.state.recorded }
 
--- the draft's entries can replace those of the stream: the number type and the form are the same, and no handle is live
+-- the draft's entries can replace those of the stream: number type and form are the same, and no handle is live
 pub record IsLike (d : DraftContents) (a : AggregateContents) : Type 0 where
   pub number : d.is_signed ≡ a.is_signed
   pub form : d.form ≡ form_of a.state.aggregate
   pub unheld : a.live ≡ []
 
--- with the draft's entries in place of its own; what was prepared is given up
+-- with what the draft has in place of its own; what was prepared is given up
 abbrev pub with_draft : DraftContents → AggregateContents → AggregateContents
-with_draft d a = record a { state = record a.state { map_state = record a.state.map_state { table = d.table } }; pending = None }
+with_draft d a = record a { state = record a.state { map_state = record a.state.map_state { table = d.table }; recorded = d.recorded }; pending = None }

@@ -1,5 +1,5 @@
 -- What is kept of a set's records, whatever the aggregate.
-use Rattle.std.specs.Prelude.{ℕ, ℤ, pos, negsuc, ◌≤ℤ◌, ◌≡◌, Bool, true, false, cond, List, [], Option, None, Some, Box}
+use Rattle.std.specs.Prelude.{ℕ, ℤ, pos, negsuc, ◌<◌, ◌≤ℤ◌, ◌≡◌, IsTrue, Bool, true, false, cond, List, [], Option, None, Some, Box}
 use Rattle.std.specs.List.{AllByRecursion}
 use Rattle.std.specs.declared.alloc.Global.{Global}
 use Rattle.otel_data.specs.declared.aggregated.MetricData.{MetricData}
@@ -10,7 +10,7 @@ use Rattle.otel_model_stream.specs.Maps.{MapState, draining_points, drained_map}
 use Rattle.otel_model_stream.specs.Data.{spread_of}
 use Rattle.otel_aggregate.specs.value_map.Contents.{MapContents}
 use Rattle.otel_aggregate.specs.Streams.{AggregateContents}
-use Rattle.otel_aggregate.specs.Links.{Link}
+use Rattle.otel_aggregate.specs.Links.{AreHeld, IsLinked, Link, Linked, handles_of, spare}
 use Rattle.otel_aggregate.specs.Any.{Form, Sums, LastValues, Spreads as SpreadForm, observed_in, data_of}
 use Rattle.otel_aggregate.specs.Observed.{observed_data}
 
@@ -67,6 +67,16 @@ reported_in (Some m) = draining_points m
 abbrev pub IsReportedOf : Form → MapState → List Link → Bool → Option MapState → Type 0
 IsReportedOf form m links room None = Unit
 IsReportedOf form m links room (Some r) = (drained_map r ≡ drained_map m) × (links ≡ []) × (room ≡ false) × (form ≡ LastValues)
+
+-- a stream has these parts: handles lead to entries, which count them; there is room for one more if it is made; the
+-- map keeps what is of the form and the number type; and what was reported goes with the map
+abbrev pub IsKeptStream : Bool → Form → MapContents → Linked → Bool → Option MapState → Type 0
+IsKeptStream is_signed form map live room reported =
+    AllByRecursion (IsLinked map.numbers) live.entries
+    × AreHeld map.state.table (handles_of map.numbers live.entries)
+    × (IsTrue room → 0 < spare live)
+    × IsKeptMap is_signed form map.state
+    × IsReportedOf form map.state live.entries room reported
 
 -- ======== collections ========
 -- what a collection at a moment gives of a stream, in a number type

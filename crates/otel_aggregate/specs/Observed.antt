@@ -1,14 +1,15 @@
 -- A stream of observed sums: values that are already sums when they are observed (Metrics SDK, "Asynchronous Counter"
 -- and "MetricReader").
-use Rattle.std.specs.Prelude.{ℕ, ℤ, Bool, cond, List, [], map, Option, None, Some}
+use Rattle.std.specs.Prelude.{ℕ, ℤ, ◌+◌, Bool, cond, List, [], map, Option, None, Some}
 use Rattle.otel_common.specs.declared.attributes.KeyValue.{KeyValue}
 use Rattle.otel_data.specs.declared.sums.Sum.{Sum}
 use Rattle.otel_model_stream.specs.Sets.{AllowList}
-use Rattle.otel_model_stream.specs.Folds.{LastValue, Amount}
+use Rattle.otel_model_stream.specs.Folds.{LastValue, Amount, wrap}
 use Rattle.otel_model_stream.specs.Entries.{Point}
 use Rattle.otel_model_stream.specs.Maps.{draining_points, drained_map}
 use Rattle.otel_model_stream.specs.Observed.{difference}
 use Rattle.otel_model_stream.specs.Data.{sum}
+use Rattle.otel_model_stream.specs.Totals.{points_total}
 use Rattle.otel_aggregate.specs.Streams.{AggregateState, new_aggregate, recorded_attributes}
 use Rattle.otel_aggregate.specs.Data.{temporality_of}
 
@@ -43,7 +44,11 @@ sums_now a = cond a.stream.resets (map (difference a.reported) (values_now a)) (
 -- after a collection at a moment: no observations are left, and a delta stream has reported them and starts again
 abbrev pub drained_at : ℕ → ObservedState → ObservedState
 drained_at now a = record {
-  stream = record a.stream { map_state = drained_map a.stream.map_state; start = cond a.stream.resets now a.stream.start };
+  stream = record a.stream {
+    map_state = drained_map a.stream.map_state;
+    start = cond a.stream.resets now a.stream.start;
+    exported = cond a.stream.resets (wrap (a.stream.exported + points_total (values_now a))) a.stream.exported;
+  };
   reported = cond a.stream.resets (values_now a) a.reported;
 }
 

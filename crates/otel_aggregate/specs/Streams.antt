@@ -1,14 +1,17 @@
 -- One stream of one reader: its map of sets, and what records, handles and collections do to it (Metrics SDK,
 -- "MetricReader").
-use Rattle.std.specs.Prelude.{ℕ, Bool, true, false, not, ◌&&◌, cond, List, [], ◌∷◌, ◌++◌, Option, None, Some, is_none}
+use Rattle.std.specs.Prelude.{ℕ, Bool, true, false, not, ◌&&◌, cond, List, [], ◌∷◌, ◌++◌, ◌+◌, Option, None, Some, is_none}
 use Rattle.otel_common.specs.declared.attributes.KeyValue.{KeyValue}
 use Rattle.otel_model_stream.specs.Sets.{AttributeSet, AllowList, set_of}
-use Rattle.otel_model_stream.specs.Folds.{Aggregate, Amount, empty_of, sample_of}
+use Rattle.otel_model_stream.specs.Folds.{Aggregate, Amount, empty_of, sample_of, wrap}
 use Rattle.otel_model_stream.specs.Entries.{Point, points}
 use Rattle.otel_model_stream.specs.Events.{Handles, held_by, without}
 use Rattle.otel_model_stream.specs.Maps.{MapState, new_map, measured_map, bound_map, bound_to, updated_bound, unbound_map, evicted_map}
+use Rattle.otel_model_stream.specs.Totals.{size, points_total}
 use Rattle.otel_aggregate.specs.value_map.Contents.{is_there_in}
 
+-- what a stream makes of its records, and, modulo 2^64, the totals of its records and of the points that collections
+-- gave before they reset it
 pub record AggregateState : Type 0 where
   pub map_state : MapState
   pub aggregate : Aggregate
@@ -16,6 +19,8 @@ pub record AggregateState : Type 0 where
   pub allow : AllowList
   pub resets : Bool
   pub start : ℕ
+  pub recorded : ℕ
+  pub exported : ℕ
 
 -- a stream without records, with this limit, made at this moment
 abbrev pub new_aggregate : Aggregate → Bool → AllowList → Bool → ℕ → ℕ → AggregateState
@@ -26,11 +31,13 @@ new_aggregate aggregate is_monotonic allow resets limit start = record {
   allow = allow;
   resets = resets;
   start = start;
+  recorded = 0;
+  exported = 0;
 }
 
 -- whether its numbers are signed; the stream; its live handles; the set of the entry that the prepared record or bind
--- uses, if any; whether room is made for a handle; whether each collection empties it, as it does observed sums; and what a stream of these
--- reported in the last collection. A stream of observed sums has no handles
+-- uses, if any; whether room is made for a handle; whether each collection empties it, as it does observed sums; and
+-- what a stream of these reported in the last collection. A stream of observed sums has no handles
 pub record AggregateContents : Type 0 where
   pub is_signed : Bool
   pub state : AggregateState
@@ -44,9 +51,13 @@ pub record AggregateContents : Type 0 where
 abbrev pub is_known : AllowList → List KeyValue → MapState → Bool
 is_known allow l m = is_there_in (set_of allow l) m
 
+-- after a record of an amount that left this map
+abbrev pub recorded_in : MapState → Amount → AggregateState → AggregateState
+recorded_in m v a = record a { map_state = m; recorded = wrap (a.recorded + size a.aggregate v) }
+
 -- after a record of an amount under a set
 abbrev pub recorded_set : AttributeSet → Amount → AggregateState → AggregateState
-recorded_set s v a = record a { map_state = measured_map s (sample_of a.aggregate v) a.map_state }
+recorded_set s v a = recorded_in (measured_map s (sample_of a.aggregate v) a.map_state) v a
 
 -- after a record of an amount with these attributes
 abbrev pub recorded_attributes : List KeyValue → Amount → AggregateState → AggregateState
@@ -59,7 +70,7 @@ points_now a = points (not a.resets) a.map_state.table
 
 -- after a collection at a moment, which changes only a stream that resets
 abbrev pub stream_after_collection : ℕ → AggregateState → AggregateState
-stream_after_collection now a = cond a.resets (record a { map_state = evicted_map a.map_state; start = now }) a
+stream_after_collection now a = cond a.resets (record a { map_state = evicted_map a.map_state; start = now; exported = wrap (a.exported + points_total (points_now a)) }) a
 
 -- after a prepared record of this set, if there is one
 abbrev pub taken_from : Option AttributeSet → Amount → AggregateContents → AggregateContents
@@ -83,7 +94,7 @@ stream_after_bind h s = cond (s.room && is_none (held_by h s.live)) (bind_of s.p
 -- after a record through a handle of this set's entry, if there is a set
 abbrev pub update_at : Option AttributeSet → Amount → AggregateState → AggregateState
 update_at None v a = a
-update_at (Some g) v a = record a { map_state = updated_bound g (sample_of a.aggregate v) a.map_state }
+update_at (Some g) v a = recorded_in (updated_bound g (sample_of a.aggregate v) a.map_state) v a
 
 -- after a record through the handle with this number, if it is live; what was prepared is given up
 abbrev pub stream_after_update : ℕ → Amount → AggregateContents → AggregateContents

@@ -4,11 +4,10 @@ ghost use Rattle.std.specs.Bool.{beq};
 ghost use Rattle.std.specs.Prelude.{◌≡◌, [], true, false, cond, None, Some, IsTrue, OnOk, OnErr, IfOk, IsOk, IsOkUnless};
 ghost use Rattle.otel_common.specs.Temporalities.{resets};
 ghost use Rattle.otel_model_stream.specs.Sets.{set_of};
-ghost use Rattle.otel_model_stream.specs.Folds.{Last, wrap};
+ghost use Rattle.otel_model_stream.specs.Folds.{Last};
 ghost use Rattle.otel_model_stream.specs.Machine.{without_none_handles};
 ghost use Rattle.otel_model_stream.specs.Maps.{new_map, bound_to};
-ghost use Rattle.otel_model_stream.specs.Totals.{points_total, size};
-ghost use Rattle.otel_aggregate.specs.Any.{aggregate_of, is_monotonic_of, drains_of, amount_of, any_after_commit, any_after_none, any_after_record, is_taken, is_signed_value, any_with_room, any_after_bind, any_after_update, is_updated, any_after_unbind, metrics_now, any_points, any_after_collection, draft_of, IsLike, with_draft};
+ghost use Rattle.otel_aggregate.specs.Any.{aggregate_of, is_monotonic_of, drains_of, amount_of, any_after_commit, any_after_none, any_after_record, is_signed_value, any_with_room, any_after_bind, any_after_update, is_updated, any_after_unbind, metrics_now, any_after_collection, draft_of, IsLike, with_draft};
 ghost use Rattle.otel_aggregate.specs.Kept.{IsWithin, state_of};
 ghost use Rattle.otel_aggregate.specs.Streams.{new_aggregate, is_known};
 
@@ -20,7 +19,6 @@ use crate::settings::AnySettings;
 use crate::value_map::ValueMap;
 use crate::value_map::hashed_key::GivenAttributes;
 use crate::value_map::hashing::SetHashBuilder;
-use crate::values::bits_of;
 use otel_common::faults::Fault;
 use otel_common::keys::Key;
 use otel_common::lists::Items;
@@ -73,14 +71,17 @@ pub struct AggregateStream {
     /// Whether the stream starts again at each collection.
     resets: bool,
     start: u64,
+    /// The total of all records, modulo 2^64.
+    recorded: u64,
+    /// The total of all points given by collections that then reset the stream, modulo 2^64.
+    exported: u64,
 }
 
 impl Model for AggregateStream {
-    ghost use Rattle.std.specs.Prelude.{◌<◌, IsTrue, is_some};
-    ghost use Rattle.std.specs.List.{AllByRecursion};
+    ghost use Rattle.std.specs.Prelude.{is_some};
     ghost use Rattle.otel_aggregate.specs.Any.{aggregate_of, is_monotonic_of, form_of};
-    ghost use Rattle.otel_aggregate.specs.Kept.{IsKeptMap, IsReportedOf, reported_in, state_of};
-    ghost use Rattle.otel_aggregate.specs.Links.{spare, handles_of, IsLinked, AreHeld};
+    ghost use Rattle.otel_aggregate.specs.Kept.{IsKeptStream, reported_in, state_of};
+    ghost use Rattle.otel_aggregate.specs.Links.{handles_of};
     ghost use Rattle.otel_aggregate.specs.Streams.{AggregateContents};
 
     ghost Value = { AggregateContents };
@@ -94,6 +95,8 @@ impl Model for AggregateStream {
         allow = s.allow;
         resets = s.resets;
         start = s.start;
+        recorded = s.recorded;
+        exported = s.exported;
       };
       live = handles_of s.map.numbers s.live.entries;
       pending = s.map.pending;
@@ -102,11 +105,7 @@ impl Model for AggregateStream {
       reported = reported_in (state_of s.reported);
     } };
 
-    ghost invariant = { λ s. AllByRecursion (IsLinked s.map.numbers) s.live.entries
-        × AreHeld s.map.state.table (handles_of s.map.numbers s.live.entries)
-        × (IsTrue s.room → 0 < spare s.live)
-        × IsKeptMap s.is_signed (form_of (aggregate_of s.settings)) s.map.state
-        × IsReportedOf (form_of (aggregate_of s.settings)) s.map.state s.live.entries s.room (state_of s.reported) };
+    ghost invariant = { λ s. IsKeptStream s.is_signed (form_of (aggregate_of s.settings)) s.map s.live s.room (state_of s.reported) };
 }
 
 impl Drop for AggregateStream {
@@ -122,6 +121,8 @@ impl Drop for AggregateStream {
             allow: _allow,
             resets: _,
             start: _,
+            recorded: _,
+            exported: _,
         } = self;
     }
 }
@@ -169,6 +170,8 @@ impl AggregateStream {
             allow,
             resets: matches!(temporality, Temporality::Delta),
             start,
+            recorded: 0,
+            exported: 0,
         })
     }
 
@@ -200,19 +203,6 @@ impl AggregateStream {
         }
     }
 
-    /// What a record of a value adds to the total of the records: the value's bits, 1 for a histogram, or 0 for last
-    /// values and observed sums.
-    #[inline(always)]
-    pub fn size(&self, value: NumberValue) -> u64
-        ensures { result ≡ size self.now.state.aggregate (amount_of value) }
-    {
-        match &self.settings {
-            AnySettings::Sum { is_monotonic: _ } => bits_of(value),
-            AnySettings::Histogram(_) => 1,
-            _ => 0,
-        }
-    }
-
     /// Whether a value has the stream's number type.
     #[inline(always)]
     fn takes(&self, value: NumberValue) -> bool
@@ -225,69 +215,66 @@ impl AggregateStream {
         }
     }
 
-    /// Takes in the prepared record, if there is one and the value has the stream's number type, and returns whether
-    /// it did. This is the second phase; it takes no memory, and looks nothing up for a set that has an entry.
+    /// Takes in the prepared record, if there is one and the value has the stream's number type. This is the second
+    /// phase; it takes no memory, and looks nothing up for a set that has an entry.
     #[inline(always)]
-    pub fn commit(&mut self, value: NumberValue) -> bool
+    pub fn commit(&mut self, value: NumberValue)
         ensures taken { self.new ≡ any_after_commit value self.old }
-        ensures told { result ≡ is_taken value self.old }
     {
-        if !self.takes(value) {
-            return false;
-        }
-        if !self.map.is_prepared() {
-            return false;
+        if !self.takes(value) || !self.map.is_prepared() {
+            return;
         }
         let record = self.settings.record(value);
         self.map.commit(record);
         // Tells the prover that the entries that kept their numbers are still named by them.
         self.map.law_of_numbers();
-        true
+        self.recorded = self.settings.counted(value, self.recorded);
     }
 
-    /// Takes in a record with these attributes, in place of one that was prepared, and returns whether the value has the
-    /// stream's number type; if not, nothing changes. It is made in one pass if there is no allow-list. Takes no memory
-    /// where `prepare` takes none.
+    /// Takes in a record with these attributes, in place of one that was prepared, if the value has the stream's number
+    /// type. It is made in one pass if there is no allow-list. Takes no memory where `prepare` takes none.
     #[inline(always)]
     pub fn measure(
         &mut self,
         value: NumberValue,
         attributes: &GivenAttributes,
-    ) -> Result<bool, AllocError>
+    ) -> Result<(), AllocError>
         ensures taken { OnOk result (self.new ≡ any_after_record value attributes.now self.old) }
-        ensures told { IfOk result (λ taken. taken ≡ beq (is_signed_value value) self.old.is_signed) }
         ensures refused { OnErr result (self.new ≡ record self.old { pending = None }) }
         ensures known { IsTrue (is_known self.old.state.allow attributes.now self.old.state.map_state) → IsOk result }
     {
         if !self.takes(value) {
-            return Ok(false);
+            return Ok(());
         }
         if self.allow.is_some() {
             self.prepare(attributes)?;
-            return Ok(self.commit(value));
+            self.commit(value);
+            return Ok(());
         }
         let record = self.settings.record(value);
         let measured = self.map.measure_given(record, attributes);
         self.map.law_of_numbers();
         match measured {
-            Ok(()) => Ok(true),
+            Ok(()) => {
+                self.recorded = self.settings.counted(value, self.recorded);
+                Ok(())
+            }
             Err(_) => Err(AllocError),
         }
     }
 
-    /// Takes in a record without attributes, if the value has the stream's number type, and returns whether it does;
-    /// then it gives up what was prepared. Looks nothing up, and takes no memory.
+    /// Takes in a record without attributes, if the value has the stream's number type, and then gives up what was
+    /// prepared. Looks nothing up, and takes no memory.
     #[inline(always)]
-    pub fn measure_none(&mut self, value: NumberValue) -> bool
+    pub fn measure_none(&mut self, value: NumberValue)
         ensures taken { self.new ≡ any_after_none value self.old }
-        ensures told { result ≡ beq (is_signed_value value) self.old.is_signed }
     {
         if !self.takes(value) {
-            return false;
+            return;
         }
         let record = self.settings.record(value);
         self.map.measure_none(record);
-        true
+        self.recorded = self.settings.counted(value, self.recorded);
     }
 
     /// Makes room for a handle, which a bind uses up. Observed sums have no handles.
@@ -341,6 +328,7 @@ impl AggregateStream {
             Some(number) => {
                 let record = self.settings.record(value);
                 self.map.update_bound(number, record);
+                self.recorded = self.settings.counted(value, self.recorded);
                 true
             }
             None => {
@@ -367,30 +355,16 @@ impl AggregateStream {
         }
     }
 
-    /// What the points of a collection made now would add up to, modulo 2^64: the 64 bits of the values of a sum, the
-    /// number of records in a histogram, and 0 for last values and observed sums.
-    pub fn total(&self) -> u64
-        ensures { result ≡ wrap (points_total (any_points self.now)) }
-    {
-        self.map.total(self.reported.is_some() || !self.resets)
-    }
-
-    /// Whether the stream starts again at each collection.
-    pub fn resets(&self) -> bool
-        ensures { result ≡ self.now.state.resets }
-    {
-        self.resets
-    }
-
     /// Ends a collection, whose points were taken, at the moment `now`, in nanoseconds since 1970. If the stream
-    /// resets, it starts again from then; if it drains, what was observed is forgotten. In either case a prepared
-    /// record is given up.
+    /// resets, the points' total is added up, and it starts again from then; if it drains, what was observed is
+    /// forgotten. In either case a prepared record is given up.
     pub fn finish(&mut self, now: u64)
         ensures ended { self.new ≡ any_after_collection now self.old }
     {
         match &mut self.reported {
             None => {
                 if self.resets {
+                    self.exported = self.exported.wrapping_add(self.map.total(false));
                     self.map.reset_and_evict();
                     self.map.law_of_numbers();
                     self.start = now;
@@ -398,6 +372,7 @@ impl AggregateStream {
             }
             Some(reported) => {
                 if self.resets {
+                    self.exported = self.exported.wrapping_add(self.map.total(true));
                     // The two maps, which drained are the same, are swapped; nothing is copied.
                     let kept: &mut ValueMap<AnyAggregator> = reported;
                     kept.drain();
@@ -410,7 +385,8 @@ impl AggregateStream {
         }
     }
 
-    /// A draft with copies of the entries. No handle may be live. Takes memory even if there are no entries.
+    /// A draft with copies of the entries, and the total of the records. No handle may be live. Takes memory even if
+    /// there are no entries.
     pub fn draft(&self, alloc: Global) -> Result<AggregateDraft, Fault>
         requires { self.now.live ≡ [] }
         ensures draft { IfOk result (λ draft. draft ≡ draft_of self.now) }
@@ -419,17 +395,19 @@ impl AggregateStream {
         Ok(AggregateDraft {
             is_signed: self.is_signed,
             entries: self.map.draft(alloc)?,
+            recorded: self.recorded,
         })
     }
 
-    /// Exchanges the entries with those of a draft, and gives up a prepared record. No handle may be live. What
-    /// observed sums reported stays unchanged. Takes no memory.
+    /// Exchanges the entries and the total of the records with those of a draft, and gives up a prepared record. No
+    /// handle may be live. What observed sums reported stays unchanged. Takes no memory.
     pub fn exchange(&mut self, draft: &mut AggregateDraft)
         requires { IsLike draft.old self.old }
         ensures stream { self.new ≡ with_draft draft.old self.old }
         ensures draft { draft.new ≡ draft_of self.old }
     {
         self.map.exchange(&mut draft.entries);
+        swap(&mut self.recorded, &mut draft.recorded);
     }
 
     /// The law that no handle holds the empty set's entry if none is live, and that observed sums have no handles.

@@ -4,11 +4,12 @@ use crate::any_aggregator::AnyAggregator;
 use crate::value_map::draft::Draft;
 use std::marker::Model;
 
-/// Entries that can change places with those of a stream. No handle holds any of them.
+/// Entries and a total of records, to change places with those of a stream. No handle holds any of the entries.
 #[derive(Drop)]
 pub struct AggregateDraft {
     pub(crate) is_signed: bool,
     pub(crate) entries: Draft<AnyAggregator>,
+    pub(crate) recorded: u64,
 }
 
 impl Model for AggregateDraft {
@@ -19,7 +20,7 @@ impl Model for AggregateDraft {
 
     ghost Value = { DraftContents };
 
-    ghost view = { λ d. record { is_signed = d.is_signed; form = form_of_fold d.entries.none.fold; table = d.entries } };
+    ghost view = { λ d. record { is_signed = d.is_signed; form = form_of_fold d.entries.none.fold; table = d.entries; recorded = d.recorded } };
 
     ghost invariant = { λ d. AreKept d.is_signed (form_of_fold d.entries.none.fold) d.entries × AreHeld d.entries [] };
 }

@@ -1,14 +1,15 @@
 //! What a stream makes of its records.
 
-ghost use Rattle.std.specs.Prelude.{◌≡◌};
-ghost use Rattle.otel_model_stream.specs.Folds.{empty_of, sample_of};
+ghost use Rattle.std.specs.Prelude.{◌≡◌, ◌+◌};
+ghost use Rattle.otel_model_stream.specs.Folds.{empty_of, sample_of, wrap};
+ghost use Rattle.otel_model_stream.specs.Totals.{size};
 ghost use Rattle.otel_aggregate.specs.Any.{aggregate_of, amount_of, is_monotonic_of, drains_of};
 ghost use Rattle.otel_aggregate.specs.AnyKept.{empty_for, sample_in};
 
 use crate::aggregators::bounds::Bounds;
 use crate::aggregators::buckets::BucketsConfig;
 use crate::any_aggregator::{AnyConfig, AnyRecord};
-use crate::values::wide_of;
+use crate::values::{bits_of, wide_of};
 use otel_data::numbers::NumberValue;
 
 /// The bounds of a histogram's buckets, and what it keeps besides their counts.
@@ -68,6 +69,20 @@ impl AnySettings {
             _ => 0,
         };
         AnyRecord { value, bucket }
+    }
+
+    /// The total of the records once one of a value is made: it adds the value's bits, 1 in a histogram, or 0 to last
+    /// values and observed sums.
+    #[inline(always)]
+    pub(crate) fn counted(&self, value: NumberValue, total: u64) -> u64
+        ensures { result ≡ wrap (total + size (aggregate_of self.now) (amount_of value)) }
+    {
+        let size = match self {
+            AnySettings::Sum { is_monotonic: _ } => bits_of(value),
+            AnySettings::Histogram(_) => 1,
+            _ => 0,
+        };
+        total.wrapping_add(size)
     }
 
     /// Whether it is a sum to which only values of at least 0 are added.

@@ -1,17 +1,16 @@
 -- How a collection takes observations in, and the drafts that it takes them into (Metrics SDK, "Observations inside
 -- asynchronous callbacks").
-use Rattle.std.specs.Prelude.{◌≡◌, ℕ, Bool, true, false, List, [], ◌∷◌, fold, All, Option, None, Some, IfSome, slice_get}
+use Rattle.std.specs.Prelude.{◌≡◌, ℕ, true, List, [], ◌∷◌, fold, All, Option, Some, IfSome, slice_get}
 use Rattle.std.specs.Option.{option_map}
 use Rattle.otel_stream.specs.declared.observation.Observed.{Observed}
-use Rattle.otel_model_stream.specs.Entries.{Table}
-use Rattle.otel_aggregate.specs.Any.{Form, form_of, is_signed_value, amount_of}
+use Rattle.otel_aggregate.specs.Any.{DraftContents, form_of, is_signed_value, amount_of}
 use Rattle.otel_model.specs.Calls as model
 use Rattle.otel_model.specs.Calls.{or_else, is_observable}
 use Rattle.otel_model.specs.Demands.{Demand}
 use Rattle.otel_model.specs.State.{ReaderPart}
 use Rattle.otel_model.specs.Streams.{aggregate_of}
 use Rattle.opentelemetry_sdk.specs.pipeline.Pipelines.{FeedsType, all_without_pending, changed_each}
-use Rattle.opentelemetry_sdk.specs.pipeline.Streams.{StreamContents, contents_after_record}
+use Rattle.opentelemetry_sdk.specs.pipeline.Streams.{StreamContents, contents_after_record, without_pending}
 
 -- an observation in the words of the model
 abbrev pub observed_of : Observed → model.Observed
@@ -35,49 +34,35 @@ abbrev pub observed_all : List (List ℕ) → List Observed → List StreamConte
 observed_all feeds os streams = fold (observed_in feeds) streams os
 
 -- ======== drafts ========
--- what a draft of a stream has: entries, their number type, the form of what they keep, and a total of records
-pub record Draft : Type 0 where
-  pub is_signed : Bool
-  pub form : Form
-  pub table : Table
-  pub recorded : ℕ
-
 -- a draft with what this stream has
-abbrev pub draft_of : StreamContents → Draft
+abbrev pub draft_of : StreamContents → DraftContents
 draft_of h = record { is_signed = h.stream.demand.identity.signed; form = form_of (aggregate_of h.stream.demand); table = h.stream.machine.table; recorded = h.stream.recorded }
 
 -- the draft can change places with a stream of this demand: number type and form are the same, and the instrument is
 -- observable, so that no handle holds an entry
-pub record IsDraftOf (d : Draft) (demand : Demand) : Type 0 where
+pub record IsDraftOf (d : DraftContents) (demand : Demand) : Type 0 where
   pub number : d.is_signed ≡ demand.identity.signed
   pub form : d.form ≡ form_of (aggregate_of demand)
   pub observable : is_observable demand.identity.kind ≡ true
 
 -- the stream with what its draft has in place of its own, if it has a draft; in any case nothing is prepared, and no
 -- room is made
-abbrev pub drafted : Option Draft → StreamContents → StreamContents
-drafted d h = record {
-  stream = record {
-    demand = h.stream.demand;
-    machine = record { table = or_else (option_map (λ x. x.table) d) h.stream.machine.table; live = h.stream.machine.live };
-    start = h.stream.start;
-    reported = h.stream.reported;
+abbrev pub drafted : Option DraftContents → StreamContents → StreamContents
+drafted d h = record (without_pending h) {
+  stream = record h.stream {
+    machine = record h.stream.machine { table = or_else (option_map (λ x. x.table) d) h.stream.machine.table };
     recorded = or_else (option_map (λ x. x.recorded) d) h.stream.recorded;
-    exported = h.stream.exported;
   };
-  resets = h.resets;
-  pending = None;
-  room = false;
 }
 
 -- the same for each stream of a list
-abbrev pub drafted_all : List (Option Draft) → List StreamContents → List StreamContents
+abbrev pub drafted_all : List (Option DraftContents) → List StreamContents → List StreamContents
 drafted_all [] hs = all_without_pending hs
 drafted_all (d ∷ ds) [] = []
 drafted_all (d ∷ ds) (h ∷ hs) = drafted d h ∷ drafted_all ds hs
 
 -- the drafts can change places with these streams
-abbrev pub AreDraftsOf : List (Option Draft) → List StreamContents → Type 0
+abbrev pub AreDraftsOf : List (Option DraftContents) → List StreamContents → Type 0
 AreDraftsOf [] hs = Unit {0}
 AreDraftsOf (d ∷ ds) [] = ⊥
 AreDraftsOf (d ∷ ds) (h ∷ hs) = IfSome d (λ x. IsDraftOf x h.stream.demand) × AreDraftsOf ds hs

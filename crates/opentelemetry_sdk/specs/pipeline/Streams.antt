@@ -7,11 +7,11 @@ use Rattle.otel_data.specs.declared.collections.Metric.{Metric}
 use Rattle.otel_data.specs.declared.numbers.NumberValue.{NumberValue}
 use Rattle.otel_model_stream.specs.Sets.{AttributeSet, none_set}
 use Rattle.otel_model_stream.specs.Folds.{Amount, empty_of, wrap}
-use Rattle.otel_model_stream.specs.Entries.{Table, Point, entry_for, place}
+use Rattle.otel_model_stream.specs.Entries.{Point, entry_for, place}
 use Rattle.otel_model_stream.specs.Events.{Event, Kind, held_by}
 use Rattle.otel_model_stream.specs.Machine.{points, machine_after_collection, step}
 use Rattle.otel_model_stream.specs.Observed.{difference}
-use Rattle.otel_model_stream.specs.Totals.{size, points_total}
+use Rattle.otel_model_stream.specs.Totals.{points_total}
 use Rattle.otel_aggregate.specs.Any.{is_signed_value, amount_of}
 use Rattle.otel_aggregate.specs.Streams.{AggregateState, AggregateContents}
 use Rattle.otel_model.specs.Calls.{is_observable}
@@ -44,15 +44,13 @@ asks_monotonic d = by d.aggregation
     by LastValue = false
     by (ExplicitBucketHistogram bounds m) = false
 
--- the aggregate that a demand asks for, with these entries and this start, which collections reset or not
-abbrev pub asked_aggregate : Demand → Bool → Table → ℕ → AggregateState
-asked_aggregate d resets table start = record {
-  map_state = record { limit = d.limit; empty = empty_of (aggregate_of d); table = table };
+-- the aggregate that a demand asks for, with what this one has recorded
+abbrev pub asked_aggregate : Demand → AggregateState → AggregateState
+asked_aggregate d a = record a {
+  map_state = record a.map_state { limit = d.limit; empty = empty_of (aggregate_of d) };
   aggregate = aggregate_of d;
   is_monotonic = asks_monotonic d;
   allow = d.allow;
-  resets = resets;
-  start = start;
 }
 
 -- a stream can be made for the demand: the aggregation is valid
@@ -61,21 +59,21 @@ pub record IsMakeable (d : Demand) : Type 0 where
 
 -- the aggregate is the one that the demand asks for; if the instrument is observable, it has no live handles
 pub record IsAsked (d : Demand) (a : AggregateContents) : Type 0 where
-  pub state : a.state ≡ asked_aggregate d a.state.resets a.state.map_state.table a.state.start
+  pub state : a.state ≡ asked_aggregate d a.state
   pub signed : a.is_signed ≡ d.identity.signed
   pub drains : a.drains ≡ is_drained d
   pub unheld : is_observable d.identity.kind ≡ true → a.live ≡ []
 
--- the stream of this demand with this aggregate, and these totals of what it recorded and exported
-abbrev pub contents_of : Demand → AggregateContents → ℕ → ℕ → StreamContents
-contents_of d a recorded exported = record {
+-- the stream of this demand with this aggregate
+abbrev pub contents_of : Demand → AggregateContents → StreamContents
+contents_of d a = record {
   stream = record {
     demand = d;
     machine = record { table = a.state.map_state.table; live = a.live };
     start = a.state.start;
     reported = a.reported;
-    recorded = recorded;
-    exported = exported;
+    recorded = a.state.recorded;
+    exported = a.state.exported;
   };
   resets = a.state.resets;
   pending = a.pending;
@@ -90,10 +88,6 @@ new_contents resets d now = record { stream = new_stream now d; resets = resets;
 -- the set of the entry that a record or a bind of the set uses
 abbrev pub used_for : AttributeSet → StreamContents → AttributeSet
 used_for s h = entry_for s (place h.stream.demand.limit (empty_of (aggregate_of h.stream.demand)) s h.stream.machine.table).entries
-
--- with the total of the records alone, once one is counted
-abbrev pub with_counted : Amount → StreamContents → StreamContents
-with_counted v h = record h { stream = record h.stream { recorded = wrap (h.stream.recorded + size (aggregate_of h.stream.demand) v) } }
 
 -- after an event other than a collection; nothing is prepared any more
 abbrev pub with_event : Event → StreamContents → StreamContents
@@ -120,7 +114,7 @@ contents_after_record value l h = cond (beq (is_signed_value value) h.stream.dem
 
 -- the stream, with nothing prepared and no room made
 abbrev pub without_pending : StreamContents → StreamContents
-without_pending h = record { stream = h.stream; resets = h.resets; pending = None; room = false }
+without_pending h = record h { pending = None; room = false }
 
 -- ======== handles ========
 -- after a bind of the set as this handle, if there is a set; it uses the room
@@ -161,18 +155,13 @@ shown_values h = cond (shows_added h) (map (difference h.stream.reported) (shown
 
 -- the stream after a collection at a moment
 abbrev pub contents_after_collection : ℕ → StreamContents → StreamContents
-contents_after_collection now h = record {
-  stream = record {
-    demand = h.stream.demand;
+contents_after_collection now h = record h {
+  stream = record h.stream {
     machine = machine_after_collection (window_of h) h.stream.machine;
     start = cond h.resets now h.stream.start;
     reported = cond (shows_added h) (shown_points h) h.stream.reported;
-    recorded = h.stream.recorded;
     exported = cond h.resets (wrap (h.stream.exported + points_total (shown_points h))) h.stream.exported;
   };
-  resets = h.resets;
-  pending = h.pending;
-  room = h.room;
 }
 
 -- the metric that a collection at a moment gives of the stream, with or without points

@@ -3,18 +3,17 @@
 ghost use Rattle.std.specs.Prelude.{◌≡◌, nat_lt, true, false, Some, IfOk, IfSome, IsOk, OnOk, OnErr, IsOkUnless};
 ghost use Rattle.std.specs.Option.{option_map};
 ghost use Rattle.otel_common.specs.Temporalities.{resets};
-ghost use Rattle.otel_aggregate.specs.Any.{amount_of};
 ghost use Rattle.otel_model.specs.Calls.{is_observable};
 ghost use Rattle.otel_model.specs.Collections.{number_of_points};
 ghost use Rattle.opentelemetry_sdk.specs.pipeline.Known.{is_known_to};
 ghost use Rattle.opentelemetry_sdk.specs.pipeline.Pipelines.{IsReady};
 ghost use Rattle.opentelemetry_sdk.specs.pipeline.Observations.{IsDraftOf, draft_of, drafted};
-ghost use Rattle.opentelemetry_sdk.specs.pipeline.Streams.{IsAsked, IsMakeable, contents_of, new_contents, without_pending, with_counted, contents_after, contents_after_record, contents_after_collection, shown_metric, if_points};
+ghost use Rattle.opentelemetry_sdk.specs.pipeline.Streams.{IsMakeable, new_contents, without_pending, contents_after, contents_after_record, contents_after_collection, shown_metric, if_points};
 
 use crate::pipeline::aggregations::{is_observable, settings_of};
 use crate::pipeline::change::Change;
-use crate::pipeline::draft::StreamDraft;
 use otel_aggregate::aggregate_stream::AggregateStream;
+use otel_aggregate::draft::AggregateDraft;
 use otel_aggregate::value_map::hashed_key::GivenAttributes;
 use otel_aggregate::value_map::hashing::SetHashBuilder;
 use otel_common::faults::Fault;
@@ -27,17 +26,12 @@ use otel_stream::demand::Demand;
 use otel_stream::observation::Observed;
 use std::alloc::{AllocError, Global};
 use std::marker::Model;
-use std::mem::swap;
 
 /// A stream: what was demanded, and the records so far.
 #[derive(Drop)]
 pub(crate) struct MetricStream {
     demand: Demand,
     aggregate: AggregateStream,
-    /// The total of all records, modulo 2^64.
-    recorded: u64,
-    /// The total of all points given by collections that then reset the stream, modulo 2^64.
-    exported: u64,
 }
 
 impl Model for MetricStream {
@@ -45,7 +39,7 @@ impl Model for MetricStream {
 
     ghost Value = { StreamContents };
 
-    ghost view = { λ s. contents_of s.demand s.aggregate s.recorded s.exported };
+    ghost view = { λ s. contents_of s.demand s.aggregate };
 
     ghost invariant = { λ s. IsAsked s.demand s.aggregate };
 }
@@ -65,36 +59,6 @@ fn has_points(metrics: &AggregatedMetrics) -> bool
     many > 0
 }
 
-/// Makes the aggregate of the stream of this demand, without records, at the moment `now`, in nanoseconds since 1970, for
-/// a reader that answered this temporality.
-#[inline(always)]
-fn new_aggregate(
-    alloc: Global,
-    hasher: SetHashBuilder,
-    temporality: Temporality,
-    demand: &Demand,
-    now: u64,
-) -> Result<AggregateStream, Fault>
-    requires { IsMakeable demand.now }
-    ensures asked { IfOk result (λ made. IsAsked demand.now made) }
-    ensures made { IfOk result (λ made. contents_of demand.now made 0 0 ≡ new_contents (resets temporality) demand.now now) }
-    ensures only_memory { IsOkUnless result Fault.OutOfMemory }
-{
-    copied_attributes();
-    let settings = settings_of(demand)?;
-    let allow = demand.allow.clone()?;
-    AggregateStream::new(
-        alloc,
-        hasher,
-        settings,
-        demand.identity.signed,
-        temporality,
-        allow,
-        demand.limit,
-        now,
-    )
-}
-
 impl MetricStream {
     /// Makes a stream without records at the moment `now`, in nanoseconds since 1970, for a reader that answered this
     /// temporality.
@@ -110,13 +74,20 @@ impl MetricStream {
         ensures made { IfOk result (λ s. s ≡ new_contents (resets temporality) demand now) }
         ensures only_memory { IsOkUnless result Fault.OutOfMemory }
     {
-        let aggregate = new_aggregate(alloc, hasher, temporality, &demand, now)?;
-        Ok(MetricStream {
-            demand,
-            aggregate,
-            recorded: 0,
-            exported: 0,
-        })
+        copied_attributes();
+        let settings = settings_of(&demand)?;
+        let allow = demand.allow.clone()?;
+        let aggregate = AggregateStream::new(
+            alloc,
+            hasher,
+            settings,
+            demand.identity.signed,
+            temporality,
+            allow,
+            demand.limit,
+            now,
+        )?;
+        Ok(MetricStream { demand, aggregate })
     }
 
     /// What was demanded.
@@ -148,14 +119,6 @@ impl MetricStream {
         }
     }
 
-    /// Counts a record of a value in the total of all records.
-    #[inline(always)]
-    fn count(&mut self, value: NumberValue)
-        ensures { self.new ≡ with_counted (amount_of value) self.old }
-    {
-        self.recorded = self.recorded.wrapping_add(self.aggregate.size(value));
-    }
-
     /// Takes in a record with these attributes, if the value has the stream's number type.
     #[inline(always)]
     pub(crate) fn record(
@@ -167,10 +130,7 @@ impl MetricStream {
         ensures err { OnErr result (without_pending self.new ≡ without_pending self.old) }
         ensures known { is_known_to attributes.now self.old.stream ≡ true → IsOk result }
     {
-        if self.aggregate.measure(value, attributes)? {
-            self.count(value);
-        }
-        Ok(())
+        self.aggregate.measure(value, attributes)
     }
 
     /// Carries a change out, and returns the place of the handle that it bound, for a record through it; 0 if it bound
@@ -184,21 +144,15 @@ impl MetricStream {
     {
         match change {
             Change::Prepared(value) => {
-                if self.aggregate.commit(value) {
-                    self.count(value);
-                }
+                self.aggregate.commit(value);
                 0
             }
             Change::Empty(value) => {
-                if self.aggregate.measure_none(value) {
-                    self.count(value);
-                }
+                self.aggregate.measure_none(value);
                 0
             }
             Change::Held(handle, place, value) => {
-                if self.aggregate.update_bound(handle, place, value) {
-                    self.count(value);
-                }
+                self.aggregate.update_bound(handle, place, value);
                 0
             }
             Change::Bind(handle) => {
@@ -220,21 +174,17 @@ impl MetricStream {
     {
         // Tells the prover that observed sums have no handles.
         self.aggregate.law_of_handles();
-        if self.aggregate.resets() {
-            self.exported = self.exported.wrapping_add(self.aggregate.total());
-        }
         self.aggregate.finish(now);
     }
 
     /// Exchanges the entries and the total of the records with those of its draft, if there is one. Takes no memory.
-    pub(crate) fn exchange(&mut self, draft: &mut Option<StreamDraft>)
+    pub(crate) fn exchange(&mut self, draft: &mut Option<AggregateDraft>)
         requires { IfSome draft.old (λ d. IsDraftOf d self.old.stream.demand) }
         ensures stream { without_pending self.new ≡ drafted draft.old self.old }
         ensures draft { draft.new ≡ option_map (λ _. draft_of self.old) draft.old }
     {
         if let Some(draft) = draft {
-            self.aggregate.exchange(&mut draft.aggregate);
-            swap(&mut self.recorded, &mut draft.recorded);
+            self.aggregate.exchange(draft);
         }
     }
 
@@ -242,7 +192,11 @@ impl MetricStream {
     ///
     /// A new draft gets copies of the entries, which share their sets. The stream goes on with the entries themselves,
     /// and the memory that they have for more.
-    fn enter_draft(&mut self, alloc: Global, draft: &mut Option<StreamDraft>) -> Result<(), Fault>
+    fn enter_draft(
+        &mut self,
+        alloc: Global,
+        draft: &mut Option<AggregateDraft>,
+    ) -> Result<(), Fault>
         requires observable { is_observable self.old.stream.demand.identity.kind ≡ true }
         requires fits { IfSome draft.old (λ d. IsDraftOf d self.old.stream.demand) }
         ensures stream { without_pending self.new ≡ drafted draft.old self.old }
@@ -254,11 +208,7 @@ impl MetricStream {
             self.exchange(draft);
             return Ok(());
         }
-        let aggregate = self.aggregate.draft(alloc)?;
-        *draft = Some(StreamDraft {
-            aggregate,
-            recorded: self.recorded,
-        });
+        *draft = Some(self.aggregate.draft(alloc)?);
         Ok(())
     }
 
@@ -266,7 +216,7 @@ impl MetricStream {
     pub(crate) fn observe(
         &mut self,
         alloc: Global,
-        draft: &mut Option<StreamDraft>,
+        draft: &mut Option<AggregateDraft>,
         observation: &Observed,
     ) -> Result<(), Fault>
         requires observable { is_observable self.old.stream.demand.identity.kind ≡ true }

@@ -6,10 +6,10 @@ ghost use Rattle.opentelemetry_sdk.specs.pipeline.Observations.{AreDraftsOf, Are
 ghost use Rattle.opentelemetry_sdk.specs.pipeline.Pipelines.{AreNumbers, all_without_pending, all_after_collection};
 
 use crate::pipeline::collecting::scopes_of;
-use crate::pipeline::draft::StreamDraft;
 use crate::pipeline::each_stream::{finish_each, streams_fed};
 use crate::pipeline::metric_stream::MetricStream;
 use indexmap::IndexSet;
+use otel_aggregate::draft::AggregateDraft;
 use otel_common::faults::Fault;
 use otel_common::laws::resource_laws;
 use otel_common::lists::Items;
@@ -25,7 +25,7 @@ fn observe_each(
     streams: &mut Vec<MetricStream>,
     feeds: &[Items<usize>],
     observations: &[Observed],
-) -> Result<Vec<Option<StreamDraft>>, Fault>
+) -> Result<Vec<Option<AggregateDraft>>, Fault>
     requires numbers { All (AreNumbers streams.old.items) feeds.now }
     requires observable { AreObservableIn feeds.now observations.now streams.old.items }
     ensures same { all_without_pending streams.new.items ≡ all_without_pending streams.old.items }
@@ -51,7 +51,7 @@ fn observe_each(
 }
 
 /// Exchanges each stream with its draft, if it has one. Done twice, it changes nothing.
-fn exchange_each(streams: &mut Vec<MetricStream>, drafts: &mut Vec<Option<StreamDraft>>)
+fn exchange_each(streams: &mut Vec<MetricStream>, drafts: &mut Vec<Option<AggregateDraft>>)
     requires { AreDraftsOf drafts.old.items streams.old.items }
     ensures drafted { all_without_pending streams.new.items ≡ drafted_all drafts.old.items streams.old.items }
     ensures back { drafted_all drafts.new.items streams.new.items ≡ all_without_pending streams.old.items }

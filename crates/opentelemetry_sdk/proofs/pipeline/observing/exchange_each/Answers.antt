@@ -1,6 +1,7 @@
 use Rattle.std.proofs.Common.{◌∙◌, ◌<◌, ◌++◌, None, Option, add-one, ap, arith, length, length-set, refl, replicate, sym}
 use Rattle.std.proofs.lemmas.List.{append-nil, drop_all, take_all}
-use Rattle.opentelemetry_sdk.specs.pipeline.Observations.{Draft, drafted_all}
+use Rattle.otel_aggregate.specs.Any.{DraftContents}
+use Rattle.opentelemetry_sdk.specs.pipeline.Observations.{drafted_all}
 use Rattle.opentelemetry_sdk.proofs.pipeline.Drafted.{back-more, drafted-back, drafts-few, fits-at, fits-back, fits-set, left-more, none-drafted}
 use Rattle.opentelemetry_sdk.proofs.pipeline.observing.exchange_each.Goals as goal
 
@@ -31,7 +32,7 @@ loop-n-preserved c =
       left = rw add-one (left-more ds ks n o p k m h g c.index_mut-draft.ensures.value c.index_mut.ensures.value c.exchange.ensures.stream ∙ c.loop-n.invariant.left);
       back = rw add-one (back-more ds ks n p k m h g c.index_mut.ensures.value (drafted-back o p k m c.exchange.ensures.draft c.exchange.ensures.stream) ∙ c.loop-n.invariant.back);
       fits = fits-set ds ks n p m (fits-back o p k m c.exchange.ensures.draft c.exchange.ensures.stream (fits-at ds ks n o k h c.index_mut-draft.ensures.value c.index_mut.ensures.value c.loop-n.invariant.fits)) c.loop-n.invariant.fits;
-      many = omega (arith, c.loop-n.invariant.many, length-set {A = Option Draft});
+      many = omega (arith, c.loop-n.invariant.many, length-set {A = Option DraftContents});
     }
 
 pub returns-clause-drafted : goal.returns-clause-drafted

@@ -1,7 +1,8 @@
 use Rattle.std.proofs.Common.{◌≡◌, ◌∙◌, ◌<◌, suc, List, Option, ap, sym, subst, refl, arith, add-one, length, length-set, drop, drop-cons, get_or}
 use Rattle.std.proofs.lemmas.List.{drop_all, length-replicate, take_all}
 use Rattle.std.proofs.lemmas.Option.{slice_get_read}
-use Rattle.opentelemetry_sdk.specs.pipeline.Observations.{AreDraftsOf, AreObservable, Draft, drafted_all, observed_all, observing_numbers}
+use Rattle.otel_aggregate.specs.Any.{DraftContents}
+use Rattle.opentelemetry_sdk.specs.pipeline.Observations.{AreDraftsOf, AreObservable, drafted_all, observed_all, observing_numbers}
 use Rattle.opentelemetry_sdk.specs.pipeline.Pipelines.{all_without_pending, changed_each}
 use Rattle.opentelemetry_sdk.specs.pipeline.Streams.{StreamContents, contents_after_record, without_pending}
 use Rattle.opentelemetry_sdk.proofs.pipeline.Drafted.{drafted-set, fed-inside, fits-at, fits-set, none-drafted, none-fits, observable-same, observed-more}
@@ -59,7 +60,7 @@ loop-k-preserved c =
     let f : StreamContents → StreamContents = contents_after_record c.observation-item.result.value c.observation-item.result.attributes in
     record {
       same = seen_same without_pending now n c.index_mut.result.now c.index_mut.result.now c.observe.new.self c.index_mut.ensures.value c.observe.ensures.same ∙ c.loop-k.invariant.same;
-      long = omega (arith, length-set {A = Option Draft}, length-set {A = StreamContents}, c.loop-k.invariant.long);
+      long = omega (arith, length-set {A = Option DraftContents}, length-set {A = StreamContents}, c.loop-k.invariant.long);
       fits = fits-set drafts now n c.observe.new.draft c.observe.new.self c.in_ok-observe.ensures.fits c.loop-k.invariant.fits;
       left = rw add-one
           (ap (changed_each f (drop (suc c.loop-k.k-index) ns)) (drafted-set f drafts now n c.index_mut-draft.result.now c.observe.new.draft c.index_mut.result.now c.observe.new.self (omega (arith, inside, c.loop-k.invariant.long)) inside c.index_mut-draft.ensures.value c.index_mut.ensures.value c.in_ok-observe.ensures.observed)

@@ -1,44 +1,27 @@
-use Rattle.std.proofs.Common.{◌∙◌, sym, subst, List}
-use Rattle.std.specs.Prelude.{IsSome}
-use Rattle.std.specs.List.{AllByRecursion}
-use Rattle.otel_model_stream.specs.Folds.{Sample}
-use Rattle.otel_aggregate.specs.value_map.Numbers.{Numbers}
-use Rattle.otel_aggregate.specs.Any.{Form, form_of, aggregate_of, amount_of}
+use Rattle.std.proofs.Common.{◌∙◌, sym, List}
+use Rattle.otel_aggregate.specs.Any.{amount_of}
 use Rattle.otel_aggregate.specs.AnyKept.{sample_in}
-use Rattle.otel_aggregate.specs.Kept.{IsWithin, state_of}
-use Rattle.otel_aggregate.specs.Links.{Link, handles_of, AreHeld}
-use Rattle.otel_aggregate.specs.Streams.{AggregateContents}
-use Rattle.otel_aggregate.proofs.KeptLemmas.{kept-prepared, drained-prepared, reported-same}
-use Rattle.otel_aggregate.proofs.LinkLemmas.{IsLinkedStill, still-kept, handles-still, linked-still}
-use Rattle.otel_aggregate.proofs.StepLemmas.{held-measured, if-typed, taken-made}
+use Rattle.otel_aggregate.specs.Kept.{state_of}
+use Rattle.otel_aggregate.specs.Links.{Link, handles_of}
+use Rattle.otel_aggregate.proofs.LinkLemmas.{lead-kept}
+use Rattle.otel_aggregate.proofs.StepLemmas.{if-typed, of-prepared, stream-recorded, taken-made}
 use Rattle.otel_aggregate.proofs.aggregate_stream.AggregateStream.commit.Goals as goal
 
 pub invariant_of-self : goal.invariant_of-self
 invariant_of-self c =
     let was = c.self.inside.map in
     let now = c.commit in
-    let links : List Link = c.self.inside.live.entries in
-    let named = c.law_of_numbers.ensures.named in
-    let still : AllByRecursion (IsLinkedStill was.numbers now.new.self.numbers) links = still-kept was.numbers now.new.self.numbers now.ensures.numbers links c.self.invariant.0 in
-    let some : IsSome was.pending = sym c.is_prepared.ensures ∙ c.if-not-is_prepared.false in
-    let s = c.self.inside.is_signed in
-    let k : Form = form_of (aggregate_of c.self.inside.settings) in
-    let v : Sample = sample_in c.record-record.result in
-    let within : IsWithin s v.wide =
-    subst (λ (x : Sample). IsWithin s x.wide) (sym c.record-record.ensures) (subst (λ (a : AggregateContents). IsWithin a.is_signed (amount_of c.args.value).wide) (sym c.self.view_is) (c.takes.ensures.within c.if-not-takes.false)) in (
-      linked-still was.numbers now.new.self.numbers named links still,
-      subst (AreHeld now.new.self.state.table) (sym (handles-still was.numbers now.new.self.numbers named links still)) (held-measured was.state now.new.self.state _ was.pending v some now.ensures.measured c.self.invariant.1),
-      c.self.invariant.2,
-      kept-prepared s k was.state now.new.self.state was.pending v within some now.ensures.measured c.self.invariant.3,
-      reported-same k was.state now.new.self.state links c.self.inside.room (state_of c.self.inside.reported) (drained-prepared was.state now.new.self.state was.pending v some now.ensures.measured) c.self.invariant.4,
-    )
+    stream-recorded c.self.view_is c.args.value (sample_in c.record-record.result) was now.new.self c.self.inside.live (state_of c.self.inside.reported) (c.takes.ensures.within c.if-not-takes.false) c.record-record.ensures
+    (of-prepared was.state now.new.self.state was.pending _ (sym c.is_prepared.ensures ∙ c.if-not-is_prepared.false) now.ensures.measured)
+    (lead-kept was.numbers now.new.self.numbers now.ensures.numbers c.law_of_numbers.ensures.named c.self.inside.live.entries c.self.invariant.0) c.self.invariant
 
-pub returns-clause-taken : goal.returns-clause-taken
-returns-clause-taken c =
-    let was : Numbers = c.self.inside.map.numbers in
+pub returns : goal.returns
+returns c =
     let now = c.commit.new.self in
     let links : List Link = c.self.inside.live.entries in
-    let some : IsSome c.self.inside.map.pending = sym c.is_prepared.ensures ∙ c.if-not-is_prepared.false in
-    if-typed _ (sym c.takes.ensures.told ∙ c.if-not-takes.false)
-    (taken-made c.self.view_is (amount_of c.args.value) (sample_in c.record-record.result) now.state (handles_of now.numbers links) now.pending some c.record-record.ensures c.commit.ensures.measured
-    (handles-still was now.numbers c.law_of_numbers.ensures.named links (still-kept was now.numbers c.commit.ensures.numbers links c.self.invariant.0)) c.commit.ensures.spent)
+    let lead = lead-kept c.self.inside.map.numbers now.numbers c.commit.ensures.numbers c.law_of_numbers.ensures.named links c.self.invariant.0 in
+    record {
+      taken = if-typed _ (sym c.takes.ensures.told ∙ c.if-not-takes.false)
+          (taken-made c.self.view_is (amount_of c.args.value) (sample_in c.record-record.result) now.state (handles_of now.numbers links) now.pending c.counted-self-inside.result (sym c.is_prepared.ensures ∙ c.if-not-is_prepared.false) c.record-record.ensures
+          c.commit.ensures.measured lead.1 c.commit.ensures.spent c.counted-self-inside.ensures);
+    }

@@ -12,13 +12,13 @@ use Rattle.otel_aggregate.proofs.KeptLemmas.{kept-like, kept-moved, reported-exc
 use Rattle.otel_aggregate.proofs.StepLemmas.{no-links}
 use Rattle.otel_aggregate.proofs.aggregate_stream.AggregateStream.exchange.Goals as goal
 
-same_number : (c : goal.After-exchange) → c.draft.inside.is_signed ≡ c.self.inside.is_signed
+same_number : (c : goal.After-swap) → c.draft.inside.is_signed ≡ c.self.inside.is_signed
 same_number c = ap (λ (x : DraftContents). x.is_signed) c.draft.view_is ∙ c.requires.number ∙ sym (ap (λ (x : AggregateContents). x.is_signed) c.self.view_is)
 
-no_handles : (c : goal.After-exchange) → handles_of c.self.inside.map.numbers c.self.inside.live.entries ≡ []
+no_handles : (c : goal.After-swap) → handles_of c.self.inside.map.numbers c.self.inside.live.entries ≡ []
 no_handles c = ap (λ (h : AggregateContents). h.live) c.self.view_is ∙ c.requires.unheld
 
-unheld : (c : goal.After-exchange) → AreHeld c.self.inside.map.state.table []
+unheld : (c : goal.After-swap) → AreHeld c.self.inside.map.state.table []
 unheld c = subst (AreHeld c.self.inside.map.state.table) (no_handles c) c.self.invariant.1
 
 pub invariant_of-self : goal.invariant_of-self
