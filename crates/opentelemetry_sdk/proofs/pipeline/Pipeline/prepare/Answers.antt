@@ -11,10 +11,6 @@ use Rattle.opentelemetry_sdk.proofs.pipeline.Pipeline.prepare.Goals as goal
 pub invariant_of-self : goal.invariant_of-self
 invariant_of-self c = sound-settled c.self.inside.answers c.self.inside.identities.keys c.self.inside.feeds.items c.self.inside.streams.items c.prepare_each.new.streams.items c.prepare_each.ensures.same c.self.invariant
 
-pub returns-clause-ready : goal.returns-clause-ready
-returns-clause-ready c =
-    on_ok_weaker c.prepare_each.result (subst (AreReady c.args.binds c.args.attributes.now c.prepare_each.new.streams.items) (c.streams_fed.ensures ∙ ap (λ f. or_else (slice_get f c.args.instrument) []) c.deref.ensures.value)) c.prepare_each.ensures.ready
-
 -- the model does not see which streams are ready
 pub returns-clause-same : goal.returns-clause-same
 returns-clause-same c = rw (← c.self.view_is) (settled-part c.self.inside.answers c.prepare_each.new.streams.items c.self.inside.streams.items c.self.inside.feeds.items c.prepare_each.ensures.same)

@@ -9,9 +9,6 @@ use Rattle.opentelemetry_sdk.specs.pipeline.Streams.{StreamContents, without_pen
 use Rattle.opentelemetry_sdk.proofs.pipeline.Writes.{ready-more, seen_same}
 use Rattle.opentelemetry_sdk.proofs.pipeline.each_stream.prepare_each.Goals as goal
 
-pub index_mut-requires : goal.index_mut-requires
-index_mut-requires c = omega (arith, c.requires c.loop-k.k-index 0 c.loop-k-test.true, ap length c.loop-k.invariant.same, length-map {A = StreamContents} {B = StreamContents})
-
 pub returns-in_err-prepare-clause-same : goal.returns-in_err-prepare-clause-same
 returns-in_err-prepare-clause-same c =
     seen_same without_pending c.loop-k.streams.items (get_or c.args.feeds.now c.loop-k.k-index 0) c.index_mut.result.now c.index_mut.result.now c.prepare.new.self c.index_mut.ensures.value c.prepare.ensures.same

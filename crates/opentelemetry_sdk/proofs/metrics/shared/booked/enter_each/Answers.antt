@@ -7,9 +7,6 @@ use Rattle.opentelemetry_sdk.specs.declared.metrics.shared.pending.PendingRecord
 use Rattle.opentelemetry_sdk.proofs.Submitting.{taken-more}
 use Rattle.opentelemetry_sdk.proofs.metrics.shared.booked.enter_each.Goals as goal
 
-pub pass_first-value-requires : goal.pass_first-value-requires
-pass_first-value-requires g c = omega (arith, ap length c.loop.invariant.pending, length-drop c.loop.counter (pending_of c.args.worker.now), c.loop-test.true, c.requires.there)
-
 pub loop-preserved : goal.loop-preserved
 loop-preserved g c =
     let ps : List PendingRecord = pending_of c.args.worker.now in
