@@ -1,9 +1,7 @@
 -- Calls that the provider carries out are the model's.
-use Rattle.std.proofs.Common.{◌≡◌, ℕ, ◌+◌, ◌<◌, Bool, true, false, cond, not, ◌||◌, List, [], ◌∷◌, ◌++◌, map, length, take, Option, Some, None, slice_get, refl, sym, ◌∙◌, ap, subst, arith, true≢false}
-use Rattle.std.specs.Prelude.{Result, Ok, Err, OnOk, OnErr, IfOk, IsOkUnless, is_some, position}
+use Rattle.std.proofs.Common.{◌≡◌, ℕ, ◌+◌, ◌<◌, Bool, true, false, cond, not, ◌||◌, List, [], ◌∷◌, ◌++◌, map, length, take, Option, Some, None, slice_get, refl, sym, ◌∙◌, ap, subst, arith, true≢false, Result, Ok, Err, OnOk, OnErr, IfOk, IsOkUnless, is_some, position, append-nil}
 use Rattle.std.specs.List.{list_any, position_or_len}
 use Rattle.std.proofs.Math.Seq.{take-append_seam}
-use Rattle.std.proofs.lemmas.List.{append-nil}
 use Rattle.std.proofs.lemmas.Option.{slice_get_within}
 use Rattle.otel_common.specs.Scopes.{scope_eq, scope_eq-Decides}
 use Rattle.otel_common.specs.declared.attributes.KeyValue.{KeyValue}

@@ -1,6 +1,5 @@
-use Rattle.std.proofs.Common.{rules, ◌≡◌, ◌∙◌, ap, sym, true, refl, arith, get_or}
+use Rattle.std.proofs.Common.{rules, ◌≡◌, ◌∙◌, ap, sym, true, refl, arith, get_or, IsOk}
 use Rattle.std.specs.List.{list_all}
-use Rattle.std.specs.Prelude.{IsOk}
 use Rattle.std.proofs.lemmas.List.Folds.{list_all-map}
 use Rattle.std.proofs.lemmas.List.Sums.{AllPass-from_list_all}
 use Rattle.std.proofs.lemmas.List.Elements.{AllWithin-more_set}
