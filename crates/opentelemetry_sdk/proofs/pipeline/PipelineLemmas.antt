@@ -2,7 +2,7 @@
 use Rattle.std.proofs.Common.{Bool, true, false, cond, ◌≡◌, ℕ, zero, suc, List, [], ◌∷◌, ◌++◌, map, filter, length, Option, Some, None, slice_get, refl, sym, ◌∙◌, ap, subst, arith, All, Decides}
 use Rattle.std.specs.List.{AllByRecursion, IsDistinct}
 use Rattle.std.proofs.lemmas.Simd.{map-map}
-pub use Rattle.otel_aggregate.proofs.All.{filter-map}
+use Rattle.otel_aggregate.proofs.All.{filter-map as left-map}
 use Rattle.otel_model.specs.Calls.{InstrumentKind, or_else}
 use Rattle.otel_model.specs.Demands.{Identity, Demand, ReaderAnswers, identity_eq}
 use Rattle.otel_model.specs.Streams.{is_delta}
@@ -73,8 +73,11 @@ lawful-keys same law keys p unique sound = record {
 }
 
 -- ======== the model's part ========
+pub filter-map : {X Y : Type 0} (p : Y → Bool) (f : X → Y) (xs : List X) → filter p (map f xs) ≡ map f (filter (λ x. p (f x)) xs)
+filter-map p f xs = left-map f p xs
+
 streams-settled : (ks : List StreamContents) → model_streams (all_without_pending ks) ≡ model_streams ks
-streams-settled ks = ap (map (λ (h : StreamContents). h.stream)) (filter-map without_pending is_streamed ks) ∙ map-map (λ (h : StreamContents). h.stream) without_pending (filter is_streamed ks)
+streams-settled ks = ap (map (λ (h : StreamContents). h.stream)) (filter-map is_streamed without_pending ks) ∙ map-map (λ (h : StreamContents). h.stream) without_pending (filter is_streamed ks)
 
 part-settled : (answers : ReaderAnswers) (ks : List StreamContents) (feeds : List (List ℕ)) → part_by answers (all_without_pending ks) feeds ≡ part_by answers ks feeds
 part-settled answers ks feeds =

@@ -17,12 +17,6 @@ use Rattle.opentelemetry_sdk.proofs.provider_core.Core.build.Given as given
 use Rattle.opentelemetry_sdk.proofs.provider_core.Core.build.Goals.{After-make}
 use Rattle.opentelemetry_sdk.proofs.provider_core.Core.build.Goals as goal
 
--- there is no memory for what the views answer
-pub returns-in_err-answered-clause-step : goal.returns-in_err-answered-clause-step
-returns-in_err-answered-clause-step g c =
-    let old : State = state_in c.self.inside in
-    rw (← c.self.view_is) (λ own. memory-result model.Reply.Instrument (map g.V.View.answer c.args.views.now) old old (model.Call.Build c.args.meter c.args.about.now c.args.now) c.from_residual-in_err-answered.result refl (search rules) (c.in_ok-scope_of.ensures.known old.shared refl) refl)
-
 pub make-requires-clause-good : goal.make-requires-clause-good
 make-requires-clause-good g c = subst (λ s. IsGoodIn s c.args.about.now) (sym c.good_scope-scope.ensures) (good-in _ c.args.about.now (is_good c.args.about.now) refl)
 

@@ -29,6 +29,3 @@ loop-i-preserved c = record {
   same = seen_same part_of c.loop-i.pipelines c.loop-i.i c.index-pipelines-i.result (get_or c.loop-i.pipelines c.loop-i.i c.index-pipelines-i.result) c.prepare.new.self refl c.prepare.ensures.same ∙ c.loop-i.invariant.same;
   ready = AllWithin-more_set c.loop-i.pipelines c.loop-i.i c.prepare.new.self (omega arith) (IsReadyFor c.args.binds c.args.instrument c.args.attributes.now) c.loop-i.invariant.ready (rw c.hashed_for-given.ensures at c.in_ok-prepare.ensures.ready);
 }
-
-pub returns-clause-ready : goal.returns-clause-ready
-returns-clause-ready c = λ k d h. c.loop-i.invariant.ready k d (omega arith) (omega arith)
