@@ -38,12 +38,6 @@ held-stands n h place value ps typed sync held i d l = (refl, each-at (FeedsType
 pub unbind-stands : (n h : ℕ) (ps : List Piped) → EachOf (FeedsSynchronous n) (map part_of ps) → EachOf (IsHeldByFed n h) (map part_of ps) → All (StandsFor n (change.Unbind h) 0 (model.Call.Unbind h)) ps
 unbind-stands n h ps sync held i d l = (refl, each-at (FeedsSynchronous n) ps i d l sync, each-at (IsHeldByFed n h) ps i d l held)
 
--- what is done at the only reader is done at all
-pub done-alone : (g : ReaderPart → ReaderPart) (ps : List Piped) (d y : Piped) → length ps ≡ 1 → part_of y ≡ g (part_of (get_or ps 0 d)) → map part_of (set ps 0 y) ≡ map g (map part_of ps)
-done-alone g [] d y one is = absurd (omega (arith, one))
-done-alone g (p ∷ []) d y one is = ap (λ q. q ∷ []) is
-done-alone g (p ∷ q ∷ ps) d y one is = absurd (omega (arith, one))
-
 -- ======== what is known of handles ========
 -- an instrument that takes in records feeds no observable stream
 pub feeds-synchronous : (n : ℕ) (is : List InstrumentState) (i : InstrumentState) (ps : List ReaderPart) → slice_get is n ≡ Some i → is_observable i.kind ≡ false → AreTyped is ps → EachOf (FeedsSynchronous n) ps

@@ -231,9 +231,6 @@ taken-synchronous o i given at fits = go (is_observable i.kind) refl
         absurd (cc)
 
 -- ======== records that are made one after another ========
-pub made-none : (first : ℕ) (ss : List Series) (held : List ℕ) (st : State) (qs : List ReaderPart) (is : List InstrumentState) → IsBatch first ss held st qs is → IsMade [] first ss held st qs is
-made-none first ss held st qs is b = record { new = st; done = refl; shared = λ i. record st.shared { instruments = b.instruments i }; batch = b }
-
 pub made-more : (calls : List Call) (call : Call) (first : ℕ) (ss : List Series) (held held' : List ℕ) (old : State) (qs qs' : List ReaderPart) (is is' : List InstrumentState) → IsMade calls first ss held old qs is
     → ((st : State) → IsBatch first ss held st qs is → IsMade (call ∷ []) first ss held' st qs' is') → IsMade (calls ++ call ∷ []) first ss held' old qs' is'
 made-more calls call first ss held held' old qs qs' is is' so_far next =

@@ -144,13 +144,6 @@ module _ (old : State) where
     ap (λ ms. record old { shared = record old.shared { meters = ms } }) (made ∙ sym (ap (λ b. cond b old.shared.meters (machine.with_meter scope old.shared.meters)) opened)),
   )
 
-  -- there is none once it was shut down
-  pub meter-none : (scope : InstrumentationScope) → old.shared.shut ≡ true → (views : Views) → Step views old (model.Call.Meter scope) (model.Reply.Meter None) old
-  meter-none scope closed views = (
-    ap model.Reply.Meter (sym (ap (λ b. cond b None (number_from 0 scope (machine.with_meter scope old.shared.meters))) closed)),
-    ap (λ ms. record old { shared = record old.shared { meters = ms } }) (sym (ap (λ b. cond b old.shared.meters (machine.with_meter scope old.shared.meters)) closed)),
-  )
-
   -- a meter that is known stays as it is, where the provider was not shut down
   pub meter-known : (scope : InstrumentationScope) (n : ℕ) → old.shared.shut ≡ false → position (scope_eq scope) old.shared.meters ≡ Some n → (views : Views) → Step views old (model.Call.Meter scope) (model.Reply.Meter (Some n)) old
   meter-known scope n opened at views =

@@ -42,15 +42,3 @@ pub memory-step : (views : Views) (old new : State) (call : model.Call) (f : Fau
 memory-step views old new call f takes is none same =
     let P : Fault → Type 0 = λ g. Step views old call (model.Reply.Refused (fault_of g)) new in
     subst P (sym is) (takes, none, same)
-
--- the same of a result
-pub memory-result : {X : Type 0} (reply : X → model.Reply) (views : Views) (old new : State) (call : model.Call) (r : Result X Fault) → IsTrue (takes_memory call) → r ≡ Err fault.OutOfMemory → refusal old.shared (length old.readers) call ≡ None → new ≡ old
-    → Step views old call (reply_from reply r) new
-memory-result {X} reply views old new call r takes is none same =
-    let P : Result X Fault → Type 0 = λ q. Step views old call (reply_from reply q) new in
-    subst P (sym is) (takes, none, same)
-
--- a record that attributes are given with may take memory
-pub record-takes : (n : ℕ) (v : model.Number) (l : List KeyValue) → (l ≡ [] → ⊥) → IsTrue (takes_memory (model.Call.Record n v l))
-record-takes n v [] some = absurd (some refl)
-record-takes n v (a ∷ l) some = refl

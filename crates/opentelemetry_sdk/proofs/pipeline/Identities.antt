@@ -35,10 +35,6 @@ module _ (same : InstrumentKind → InstrumentKind → Bool) (law : (x y : Instr
   pub test-same : test_of ≡ identity_eq
   test-same = λ i x y. scope_eq x.scope y.scope && (kind-same x.kind y.kind i && (beq x.signed y.signed && (bytes_eq x.description y.description && (bytes_eq x.unit y.unit && bytes_eq x.name y.name))))
 
-  -- what is told by that test is told by the model's
-  pub distinct-same : (xs : List Identity) → IsDistinct test_of xs → IsDistinct identity_eq xs
-  distinct-same xs d = subst (λ t. IsDistinct t xs) test-same d
-
   pub position-same : (x : Identity) (xs : List Identity) → position (test_of x) xs ≡ position (identity_eq x) xs
   position-same x xs = ap (λ (t : Identity → Identity → Bool). position (t x) xs) test-same
 

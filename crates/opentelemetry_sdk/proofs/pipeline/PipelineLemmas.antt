@@ -64,14 +64,6 @@ sound-changed answers keys feeds old new f keeps ns e sound = sound-same answers
 pub sound-settled : (answers : ReaderAnswers) (keys : List Identity) (feeds : List (List ℕ)) (old new : List StreamContents) → all_without_pending new ≡ all_without_pending old → IsSound answers keys feeds old → IsSound answers keys feeds new
 sound-settled answers keys feeds old new e sound = sound-same answers keys feeds old new (answers-settled new old e) sound
 
--- by whichever test of identities the keys are apart
-pub lawful-keys : (same : InstrumentKind → InstrumentKind → Bool) (law : (x y : InstrumentKind) → Decides (same x y) (x ≡ y)) (keys : List Identity) (p : Piped) → IsDistinct (test_of same law) keys → IsSound p.answers keys p.feeds p.streams → IsLawful p
-lawful-keys same law keys p unique sound = record {
-  apart = subst (IsDistinct identity_eq) sound.0 (distinct-same same law keys unique);
-  numbers = sound.1;
-  once = sound.3;
-}
-
 -- ======== the model's part ========
 pub filter-map : {X Y : Type 0} (p : Y → Bool) (f : X → Y) (xs : List X) → filter p (map f xs) ≡ map f (filter (λ x. p (f x)) xs)
 filter-map p f xs = left-map f p xs
