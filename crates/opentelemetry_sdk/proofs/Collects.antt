@@ -1,5 +1,5 @@
 -- Collections that the provider makes are the model's.
-use Rattle.std.proofs.Common.{◌≡◌, ◌<◌, ◌≤◌, ℕ, zero, suc, Bool, true, false, cond, List, [], ◌∷◌, map, length, set, slice_get, slice_index_or, Option, Some, None, refl, sym, ◌∙◌, ap, Result, Ok, Err, OnOk, OnErr, IfOk, IsOkUnless, lt-ltb, le-ltb}
+use Rattle.std.proofs.Common.{◌≡◌, ◌<◌, ℕ, zero, suc, Bool, false, cond, List, [], ◌∷◌, map, length, set, slice_get, slice_index_or, Option, Some, None, refl, sym, ◌∙◌, ap, Result, Ok, Err, OnOk, OnErr, IfOk, IsOkUnless, lt-ltb}
 use Rattle.std.proofs.lemmas.Option.{get_or_from_slice_get, slice_get_read, slice_get_within}
 use Rattle.otel_common.specs.declared.faults.Fault.{Fault}
 use Rattle.otel_common.specs.declared.faults.Fault.TheVariants as fault

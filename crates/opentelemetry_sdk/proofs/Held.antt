@@ -1,5 +1,5 @@
 -- Handles at all readers, and the calls on them as the machine makes them.
-use Rattle.std.proofs.Common.{◌≡◌, ℕ, ◌+◌, ◌<◌, ◌≤◌, ◌==◌, Bool, true, false, cond, List, [], ◌∷◌, ◌++◌, map, length, get_or, set, Option, Some, None, slice_get, nat_eq, refl, sym, ◌∙◌, ap, subst, arith, zero, suc, ne_eqb, All}
+use Rattle.std.proofs.Common.{◌≡◌, ℕ, ◌+◌, ◌<◌, ◌≤◌, ◌==◌, false, cond, List, [], ◌∷◌, ◌++◌, map, length, get_or, Option, Some, None, slice_get, nat_eq, refl, sym, ◌∙◌, ap, arith, zero, suc, ne_eqb, All}
 use Rattle.std.proofs.lemmas.Bool.Decides.{nat_tests}
 use Rattle.std.specs.List.{AllByRecursion as EachOf}
 use Rattle.std.specs.Map.{lookup, remove_entry}

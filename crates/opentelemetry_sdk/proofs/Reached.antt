@@ -1,9 +1,8 @@
 -- What calls make of readers, one call after another.
-use Rattle.std.proofs.Common.{◌≡◌, ℕ, Bool, true, false, cond, List, [], ◌∷◌, length, Option, Some, None, Result, Ok, Err, refl, sym, ◌∙◌, ap, subst, true≢false, IsTrue, IfOk, OnErr}
+use Rattle.std.proofs.Common.{◌≡◌, ℕ, Bool, true, false, cond, List, [], ◌∷◌, length, Option, Some, None, Result, Ok, Err, refl, sym, ◌∙◌, ap, true≢false, IsTrue, IfOk, OnErr}
 use Rattle.std.specs.List.{list_any}
 use Rattle.std.proofs.lemmas.Bool.{or_parts}
 use Rattle.otel_common.specs.declared.faults.Fault.{Fault}
-use Rattle.otel_common.specs.declared.faults.Fault.TheVariants as fault
 use Rattle.otel_model.specs.Calls as model
 use Rattle.otel_model.specs.Demands.{Views}
 use Rattle.otel_model.specs.Machine.{accepted_after}
@@ -11,9 +10,8 @@ use Rattle.otel_model.specs.Refusals.{refusal}
 use Rattle.otel_model.specs.State.{State}
 use Rattle.otel_model.specs.Steps.{Step, answer_of, after, after_by, reply_by, asks_readers}
 use Rattle.otel_model.specs.Steps as steps
-use Rattle.otel_stream.specs.Requests.{Outcome, AllAsked, outcome_of, outcome_by, failures, first_failure}
-use Rattle.opentelemetry_sdk.specs.Correspondence.{reply_to}
-use Rattle.opentelemetry_sdk.specs.Readers.{AreReached, StepReaches, RunReaches, shut_after}
+use Rattle.otel_stream.specs.Requests.{Outcome}
+use Rattle.opentelemetry_sdk.specs.Readers.{StepReaches, RunReaches, shut_after}
 
 -- ======== whether a provider is shut down ========
 abbrev fault_by : Bool → Option model.Fault

@@ -1,5 +1,5 @@
 -- Tables of series.
-use Rattle.std.proofs.Common.{zero, suc, ◌≡◌, ◌∙◌, ℕ, Bool, false, List, [], ◌∷◌, ◌++◌, map, position, slice_get, Option, Some, None, is_some, refl, sym, ap, true≢false, option_map}
+use Rattle.std.proofs.Common.{zero, suc, ◌≡◌, ◌∙◌, ℕ, Bool, false, List, [], ◌∷◌, map, position, slice_get, Option, Some, None, is_some, refl, sym, ap, true≢false, option_map}
 use Rattle.std.specs.List.{AllByRecursion}
 use Rattle.std.proofs.lemmas.Option.{slice_get-map}
 use Rattle.std.specs.Map.{lookup}

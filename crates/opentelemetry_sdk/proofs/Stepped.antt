@@ -1,6 +1,5 @@
 -- Calls that are refused are steps of the model's machine.
-use Rattle.std.proofs.Common.{◌≡◌, ◌∙◌, ℕ, IsTrue, List, [], ◌∷◌, length, Some, None, Result, Err, refl, sym, ap, subst}
-use Rattle.otel_common.specs.declared.attributes.KeyValue.{KeyValue}
+use Rattle.std.proofs.Common.{◌≡◌, ◌∙◌, IsTrue, length, Some, None, refl, sym, ap, subst}
 use Rattle.otel_common.specs.declared.faults.Fault.{Fault}
 use Rattle.otel_common.specs.declared.faults.Fault.TheVariants as fault
 use Rattle.otel_common.specs.declared.faults.InternalFault.TheVariants as inner
@@ -10,7 +9,7 @@ use Rattle.otel_model.specs.Machine.{accepted_after}
 use Rattle.otel_model.specs.Refusals.{refusal}
 use Rattle.otel_model.specs.State.{State}
 use Rattle.otel_model.specs.Steps.{Step, takes_memory, answer_of, reply_by, after_by, reply_of, after}
-use Rattle.opentelemetry_sdk.specs.Correspondence.{fault_of, reply_from}
+use Rattle.opentelemetry_sdk.specs.Correspondence.{fault_of}
 use Rattle.opentelemetry_sdk.specs.States.{IsFault}
 
 -- refused by a fault that the machine names

@@ -1,5 +1,5 @@
 -- What is done to handles stream by stream is the model's call.
-use Rattle.std.proofs.Common.{◌≡◌, ℕ, zero, suc, ◌+◌, ◌<◌, ◌==◌, length, eq-eqb, Bool, true, false, cond, not, ◌&&◌, ◌||◌, List, [], ◌∷◌, map, Option, Some, None, is_none, slice_get, refl, sym, ◌∙◌, ap, subst, arith, true≢false, get_or}
+use Rattle.std.proofs.Common.{◌≡◌, ℕ, zero, suc, ◌+◌, ◌<◌, ◌==◌, length, eq-eqb, Bool, true, false, cond, not, ◌&&◌, ◌||◌, List, [], ◌∷◌, map, Some, None, is_none, slice_get, refl, sym, ◌∙◌, ap, subst, arith, true≢false, get_or}
 use Rattle.std.specs.List.{AllByRecursion as EachOf}
 use Rattle.otel_common.specs.declared.attributes.KeyValue.{KeyValue}
 use Rattle.otel_data.specs.declared.numbers.NumberValue.{NumberValue}
@@ -12,7 +12,7 @@ use Rattle.otel_model_stream.specs.Machine.{hold, through, let_go}
 use Rattle.otel_model_stream.specs.Maps.{MapState}
 use Rattle.otel_model_stream.specs.Sets.{AttributeSet}
 use Rattle.otel_model_stream.specs.Totals.{has_number, size}
-use Rattle.otel_model.specs.Calls.{InstrumentKind, Counter, UpDownCounter, Histogram, ObservableCounter, ObservableUpDownCounter, Gauge, ObservableGauge, is_observable, Number, Call, Bind, RecordBound, Unbind}
+use Rattle.otel_model.specs.Calls.{InstrumentKind, ObservableCounter, ObservableUpDownCounter, is_observable, Call, Bind, RecordBound, Unbind}
 use Rattle.otel_model.specs.Demands as model
 use Rattle.otel_model.specs.Machine.{stream_after, part_after_call, if_held}
 use Rattle.otel_model.specs.Sent.{is_fed, set_for}

@@ -1,15 +1,14 @@
 -- What calls leave of a reader's streams: their identities, and so their number.
-use Rattle.std.proofs.Common.{Bool, true, false, cond, ◌≡◌, ℕ, zero, suc, List, [], ◌∷◌, ◌++◌, map, filter, length, Option, Some, None, slice_get, refl, sym, ◌∙◌, ap, subst, arith, All, Decides}
-use Rattle.std.specs.List.{AllByRecursion, IsDistinct}
+use Rattle.std.proofs.Common.{Bool, ◌≡◌, ℕ, zero, suc, List, [], ◌∷◌, ◌++◌, map, filter, length, Option, Some, None, slice_get, refl, sym, ◌∙◌, ap, arith, All}
+use Rattle.std.specs.List.{AllByRecursion}
 use Rattle.std.proofs.lemmas.Simd.{map-map}
 use Rattle.otel_aggregate.proofs.All.{filter-map as left-map}
-use Rattle.otel_model.specs.Calls.{InstrumentKind, or_else}
-use Rattle.otel_model.specs.Demands.{Identity, Demand, ReaderAnswers, identity_eq}
+use Rattle.otel_model.specs.Calls.{or_else}
+use Rattle.otel_model.specs.Demands.{Identity, Demand, ReaderAnswers}
 use Rattle.otel_model.specs.Streams.{is_delta}
-use Rattle.opentelemetry_sdk.specs.pipeline.Pipelines.{AreAnswered, AreFedOnce, AreNumbers, IsLawful, Piped, all_without_pending, changed_each, fates_of, stream_identities, part_by, part_changed_by, named_identities, identity_at, is_streamed, model_streams}
+use Rattle.opentelemetry_sdk.specs.pipeline.Pipelines.{AreAnswered, AreFedOnce, AreNumbers, Piped, all_without_pending, changed_each, fates_of, stream_identities, part_by, part_changed_by, named_identities, identity_at, is_streamed, model_streams}
 use Rattle.opentelemetry_sdk.specs.pipeline.Streams.{StreamContents, without_pending}
 use Rattle.opentelemetry_sdk.proofs.pipeline.Answered.{KeepsAnswer, answer_of, answered-same, answers-settled}
-use Rattle.opentelemetry_sdk.proofs.pipeline.Identities.{distinct-same, test_of}
 use Rattle.opentelemetry_sdk.proofs.pipeline.Writes.{length-seen, unseen-each}
 
 -- ======== what is read off the demands ========

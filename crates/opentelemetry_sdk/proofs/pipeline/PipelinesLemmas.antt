@@ -1,6 +1,5 @@
 -- Lists whose elements are changed one after another.
-use Rattle.std.proofs.lemmas.List.{get_or_default}
-use Rattle.std.proofs.Common.{◌≡◌, ◌≢◌, ℕ, suc, ◌+◌, ◌<◌, ◌≤◌, List, [], ◌∷◌, map, length, get_or, set, refl, ◌∙◌, ap, arith, length-set, get_or-set_other, get_or-set_same, below_more}
+use Rattle.std.proofs.Common.{◌≡◌, ℕ, suc, ◌<◌, ◌≤◌, List, [], ◌∷◌, map, length, get_or, refl, arith}
 
 -- `seen` is what is seen of an element, `g` what is to be seen of it afterwards
 module _ {X Y : Type 0} (seen g : X → Y) where

@@ -5,7 +5,7 @@ use Rattle.opentelemetry_sdk.specs.pipeline.Pipelines.{AreMet, Piped}
 use Rattle.opentelemetry_sdk.specs.pipeline.Views.{can_keep, usable_answer}
 use Rattle.opentelemetry_sdk.proofs.pipeline.Meets.{longer-refl}
 use Rattle.std.proofs.lemmas.Result.{on_ok_weaker}
-use Rattle.opentelemetry_sdk.proofs.pipeline.ViewLemmas.{fit-demands, unfit-demands, met-same}
+use Rattle.opentelemetry_sdk.proofs.pipeline.ViewLemmas.{fit-demands}
 use Rattle.opentelemetry_sdk.proofs.pipeline.Pipeline.meet_answer.Goals as goal
 
 -- nothing is met

@@ -1,9 +1,8 @@
 use Rattle.std.proofs.Common.{◌∙◌, ap, sym, subst, [], List, ℕ, slice_get, All}
 use Rattle.otel_model.specs.Calls.{or_else}
 use Rattle.opentelemetry_sdk.specs.pipeline.Known.{IsKnownIfThere}
-use Rattle.opentelemetry_sdk.specs.pipeline.Pipelines.{IsLawful, Piped, all_without_pending, AreReady}
+use Rattle.opentelemetry_sdk.specs.pipeline.Pipelines.{IsLawful, Piped, all_without_pending}
 use Rattle.opentelemetry_sdk.proofs.pipeline.Known.{known-at}
-use Rattle.std.proofs.lemmas.Result.{on_ok_weaker}
 use Rattle.opentelemetry_sdk.proofs.pipeline.PipelineLemmas.{settled-part, sound-settled}
 use Rattle.opentelemetry_sdk.proofs.pipeline.Pipeline.prepare.Goals as goal
 

@@ -1,6 +1,5 @@
-use Rattle.std.proofs.Common.{arith}
 use Rattle.opentelemetry_sdk.specs.pipeline.Streams.{contents_after}
-use Rattle.opentelemetry_sdk.proofs.pipeline.Writes.{changed-more, number-inside}
+use Rattle.opentelemetry_sdk.proofs.pipeline.Writes.{changed-more}
 use Rattle.opentelemetry_sdk.proofs.pipeline.each_stream.change_each.Goals as goal
 
 pub loop-k-preserved : goal.loop-k-preserved

@@ -1,7 +1,7 @@
-use Rattle.std.proofs.Common.{arith, ap, sym, ◌∙◌}
+use Rattle.std.proofs.Common.{arith, sym, ◌∙◌}
 use Rattle.std.proofs.lemmas.Simd.{map-map}
 use Rattle.opentelemetry_sdk.specs.pipeline.Streams.{StreamContents, without_pending, contents_after_collection}
-use Rattle.opentelemetry_sdk.proofs.pipeline.PipelinesLemmas.{done-none, done-more, done-all}
+use Rattle.opentelemetry_sdk.proofs.pipeline.PipelinesLemmas.{done-all}
 use Rattle.opentelemetry_sdk.proofs.pipeline.each_stream.finish_each.Goals as goal
 
 pub returns : goal.returns

@@ -1,10 +1,6 @@
-use Rattle.std.proofs.Common.{◌≡◌, [], arith, map}
+use Rattle.std.proofs.Common.{[]}
 use Rattle.otel_model.specs.Calls as model
 use Rattle.otel_model.proofs.Kept.{kept_at_once}
-use Rattle.otel_stream.specs.Requests.{wanted_by}
-use Rattle.opentelemetry_sdk.specs.Providers.{views_of}
-use Rattle.opentelemetry_sdk.specs.Readers.{AreReached}
-use Rattle.opentelemetry_sdk.proofs.StepLemmas.{lent_as}
 use Rattle.opentelemetry_sdk.proofs.provider.Provider.force_flush.Goals as goal
 
 pub returns-clause-readers : goal.returns-clause-readers

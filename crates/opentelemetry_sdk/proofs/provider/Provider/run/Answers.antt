@@ -1,4 +1,5 @@
-use Rattle.std.proofs.Common.{◌≡◌, arith, rules, subst, map, IfOk, OnErr, Vec}
+use Rattle.std.proofs.Common.{◌≡◌, arith, rules, subst, map, IfOk, OnErr}
+use Rattle.std.specs.Global.{Vec}
 use Rattle.std.proofs.lemmas.Result.{IfOk-weaker}
 use Rattle.otel_stream.specs.Requests.{wanted_by}
 use Rattle.opentelemetry_sdk.specs.Readers.{RunReaches}

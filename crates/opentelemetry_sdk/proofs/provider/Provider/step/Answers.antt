@@ -1,9 +1,6 @@
-use Rattle.std.proofs.Common.{◌≡◌, arith, map}
+use Rattle.std.proofs.Common.{map}
 use Rattle.otel_model.proofs.Kept.{kept_at_once}
-use Rattle.otel_stream.specs.Requests.{wanted_by}
 use Rattle.opentelemetry_sdk.specs.Correspondence.{call_of, reply_of}
-use Rattle.opentelemetry_sdk.specs.Readers.{StepReaches}
-use Rattle.opentelemetry_sdk.proofs.StepLemmas.{lent_as}
 use Rattle.opentelemetry_sdk.proofs.provider.Provider.step.Goals as goal
 
 pub returns-clause-readers : goal.returns-clause-readers

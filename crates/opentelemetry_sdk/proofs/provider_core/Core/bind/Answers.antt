@@ -1,22 +1,17 @@
-use Rattle.std.proofs.Common.{◌≡◌, ◌∙◌, ◌++◌, ◌∷◌, [], rules, refl, ap, sym, subst, List, map, slice_get, None, arith, nat_eq}
+use Rattle.std.proofs.Common.{◌≡◌, ◌∙◌, ◌++◌, ◌∷◌, [], refl, ap, sym, subst, List, map, slice_get, None, arith, nat_eq}
 use Rattle.std.specs.List.{AllByRecursion as EachOf}
 use Rattle.std.specs.Map.{lookup}
 use Rattle.otel_common.specs.declared.attributes.KeyValue.{KeyValue}
 use Rattle.otel_model.specs.Calls as model
 use Rattle.otel_model.specs.Machine.{part_after_call}
 use Rattle.otel_model.specs.Refusals.{bind_refusal}
-use Rattle.otel_model.specs.Steps.{Step}
 use Rattle.otel_model.specs.State.{LiveHandle, State}
 use Rattle.opentelemetry_sdk.specs.pipeline.Handles.{IsNewAt}
 use Rattle.opentelemetry_sdk.specs.pipeline.Pipelines.{part_of}
 use Rattle.opentelemetry_sdk.specs.Cores.{state_in}
-use Rattle.opentelemetry_sdk.specs.declared.provider_core.handles.BoundHandle.{BoundHandle}
-use Rattle.opentelemetry_sdk.specs.Correspondence.{fault_of}
-use Rattle.opentelemetry_sdk.specs.States.{CoreContents, IsBindable, IsFault, IsSound, AreTyped}
-use Rattle.opentelemetry_sdk.proofs.Held.{feeds-synchronous, next-new, next-absent, bind-made}
+use Rattle.opentelemetry_sdk.proofs.Held.{next-new, next-absent, bind-made}
 use Rattle.opentelemetry_sdk.proofs.Sound.{sound-step}
-use Rattle.opentelemetry_sdk.proofs.Stepped.{refused-step, memory-result}
-use Rattle.opentelemetry_sdk.proofs.StepLemmas.{unchanged, lent-parts}
+use Rattle.opentelemetry_sdk.proofs.StepLemmas.{lent-parts}
 use Rattle.opentelemetry_sdk.proofs.provider_core.Core.bind.Goals.{After-add-place}
 use Rattle.opentelemetry_sdk.proofs.provider_core.Core.bind.Goals as goal
 

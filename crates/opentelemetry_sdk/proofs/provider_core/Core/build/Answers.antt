@@ -1,4 +1,4 @@
-use Rattle.std.proofs.Common.{ℕ, List, [], ◌∷◌, ◌≡◌, ◌∙◌, rules, refl, ap, sym, subst, map, arith, All, OnOk, OnErr, option_map}
+use Rattle.std.proofs.Common.{ℕ, List, [], ◌∷◌, ◌≡◌, ◌∙◌, refl, ap, sym, subst, map, arith, All, OnOk, OnErr, option_map}
 use Rattle.std.proofs.lemmas.List.Elements.{All-head, All-same, All-tail}
 use Rattle.otel_model.specs.Calls as model
 use Rattle.otel_model.specs.Demands.{is_good}
@@ -11,7 +11,6 @@ use Rattle.opentelemetry_sdk.specs.Correspondence.{reply_from}
 use Rattle.opentelemetry_sdk.specs.States.{AreAsked, IsGoodIn}
 use Rattle.std.proofs.lemmas.Result.{on_ok_weaker, on_err_weaker}
 use Rattle.opentelemetry_sdk.proofs.Sound.{sound-step}
-use Rattle.opentelemetry_sdk.proofs.Stepped.{memory-result}
 use Rattle.opentelemetry_sdk.proofs.StepLemmas.{good-in, lent_back, lent-parts, build-step}
 use Rattle.opentelemetry_sdk.proofs.provider_core.Core.build.Given as given
 use Rattle.opentelemetry_sdk.proofs.provider_core.Core.build.Goals.{After-make}

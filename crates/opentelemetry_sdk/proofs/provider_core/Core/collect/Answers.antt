@@ -1,5 +1,4 @@
-use Rattle.std.proofs.Common.{◌≡◌, ◌<◌, ◌≤◌, ◌∙◌, refl, ap, sym, [], map, set, length, None, Some, option_map, slice_get, subst, arith, All, OnOk, OnErr}
-use Rattle.std.proofs.lemmas.List.{length-map}
+use Rattle.std.proofs.Common.{◌≡◌, ◌<◌, ◌∙◌, ap, sym, [], map, set, length, None, Some, option_map, slice_get, subst, arith, All, OnOk, OnErr}
 use Rattle.std.proofs.lemmas.Option.{slice_get-map}
 use Rattle.otel_model.specs.Calls as model
 use Rattle.otel_model.specs.Machine.{changed_at, part_after_call}
@@ -9,10 +8,9 @@ use Rattle.opentelemetry_sdk.specs.pipeline.Pipelines.{part_of}
 use Rattle.opentelemetry_sdk.specs.Cores.{state_in}
 use Rattle.opentelemetry_sdk.specs.Correspondence.{observed_of, reply_from}
 use Rattle.opentelemetry_sdk.specs.States.{IsTaken}
-use Rattle.opentelemetry_sdk.proofs.Collects.{get-at, no-reader, shut-reader, collect-step, set-seen, set-unseen}
+use Rattle.opentelemetry_sdk.proofs.Collects.{get-at, collect-step, set-seen, set-unseen}
 use Rattle.std.proofs.lemmas.Result.{on_ok_weaker, on_err_weaker}
 use Rattle.opentelemetry_sdk.proofs.Sound.{sound-step}
-use Rattle.opentelemetry_sdk.proofs.Stepped.{named-step}
 use Rattle.opentelemetry_sdk.proofs.Typed.{typed-observed, observable-observed}
 use Rattle.opentelemetry_sdk.proofs.provider_core.Core.collect.Goals.{After-collect}
 use Rattle.opentelemetry_sdk.proofs.provider_core.Core.collect.Goals as goal

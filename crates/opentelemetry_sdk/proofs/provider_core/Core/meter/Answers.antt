@@ -1,14 +1,11 @@
-use Rattle.std.proofs.Common.{◌≡◌, ◌∙◌, rules, refl, ap, sym, true≢false, cond, List, [], ◌∷◌, ◌++◌, Some}
+use Rattle.std.proofs.Common.{◌≡◌, ◌∙◌, rules, ap, sym, true≢false, cond, List, [], ◌∷◌, ◌++◌}
 use Rattle.std.specs.List.{list_any, position_or_len}
 use Rattle.otel_common.specs.Scopes.{scope_eq}
 use Rattle.otel_common.specs.declared.scopes.InstrumentationScope.{InstrumentationScope}
-use Rattle.otel_model.specs.Calls as model
 use Rattle.otel_model.specs.Machine.{with_meter}
 use Rattle.otel_model.specs.State.{State}
 use Rattle.opentelemetry_sdk.specs.Cores.{state_in}
-use Rattle.opentelemetry_sdk.proofs.Sound.{sound-step}
-use Rattle.opentelemetry_sdk.proofs.Stepped.{memory-result}
-use Rattle.opentelemetry_sdk.proofs.StepLemmas.{meter-made, meter-known, meter-none, meter-unknown, has_scope-flip}
+use Rattle.opentelemetry_sdk.proofs.StepLemmas.{meter-made, meter-known, meter-unknown, has_scope-flip}
 use Rattle.opentelemetry_sdk.proofs.provider_core.Core.meter.Goals.{In_ok-number, After-from_residual-in_err-number}
 use Rattle.opentelemetry_sdk.proofs.provider_core.Core.meter.Goals as goal
 

@@ -1,17 +1,14 @@
-use Rattle.std.proofs.Common.{◌≡◌, ◌∙◌, rules, refl, true≢false, ap, sym, subst, [], map, slice_get, set, None, arith}
+use Rattle.std.proofs.Common.{◌≡◌, ◌∙◌, ap, sym, [], map, slice_get, set, None, arith}
 use Rattle.otel_model.specs.Calls as model
 use Rattle.otel_model.specs.Machine.{instrument_after_record, changed_at, part_after_call}
 use Rattle.otel_model.specs.Refusals.{record_refusal}
-use Rattle.otel_model.specs.Steps.{Step}
 use Rattle.otel_model.specs.State.{State}
 use Rattle.opentelemetry_sdk.specs.pipeline.Pipelines.{part_of}
 use Rattle.opentelemetry_sdk.proofs.pipeline.Writes.{set-changed}
 use Rattle.opentelemetry_sdk.specs.Cores.{state_in}
-use Rattle.opentelemetry_sdk.specs.Correspondence.{fault_of, number_of}
-use Rattle.opentelemetry_sdk.specs.States.{CoreContents, IsFault, IsNamed, IsSound}
+use Rattle.opentelemetry_sdk.specs.Correspondence.{number_of}
 use Rattle.opentelemetry_sdk.proofs.Sound.{sound-step}
-use Rattle.opentelemetry_sdk.proofs.Stepped.{refused-step, memory-result, record-takes}
-use Rattle.opentelemetry_sdk.proofs.StepLemmas.{unchanged, lent-parts, taken-feeds, taken-inside, record-made}
+use Rattle.opentelemetry_sdk.proofs.StepLemmas.{lent-parts, taken-inside, record-made}
 use Rattle.opentelemetry_sdk.proofs.provider_core.Core.record.Goals.{After-accept}
 use Rattle.opentelemetry_sdk.proofs.provider_core.Core.record.Goals as goal
 

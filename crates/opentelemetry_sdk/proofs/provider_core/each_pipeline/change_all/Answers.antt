@@ -1,10 +1,8 @@
-use Rattle.std.proofs.Common.{◌∙◌, arith, sym, subst}
+use Rattle.std.proofs.Common.{◌∙◌, arith, sym}
 use Rattle.std.proofs.lemmas.Simd.{map-map}
 use Rattle.otel_model.specs.Machine.{part_after_call}
-use Rattle.opentelemetry_sdk.specs.pipeline.Handles.{StandsFor}
 use Rattle.opentelemetry_sdk.specs.pipeline.Pipelines.{Piped, part_of}
-use Rattle.opentelemetry_sdk.proofs.pipeline.PipelinesLemmas.{done-none, done-more, done-all}
-use Rattle.opentelemetry_sdk.proofs.Held.{done-alone}
+use Rattle.opentelemetry_sdk.proofs.pipeline.PipelinesLemmas.{done-all}
 use Rattle.opentelemetry_sdk.proofs.provider_core.each_pipeline.change_all.Goals as goal
 
 pub returns : goal.returns

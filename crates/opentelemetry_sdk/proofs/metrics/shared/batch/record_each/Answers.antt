@@ -4,7 +4,7 @@ use Rattle.opentelemetry_sdk.specs.Batches.{IsMade}
 use Rattle.opentelemetry_sdk.specs.Pending.{call_in}
 use Rattle.opentelemetry_sdk.specs.pipeline.Pipelines.{part_of}
 use Rattle.opentelemetry_sdk.specs.declared.metrics.shared.pending.PendingRecord.{PendingRecord}
-use Rattle.opentelemetry_sdk.proofs.Holding.{made-none, made-more, next-taken}
+use Rattle.opentelemetry_sdk.proofs.Holding.{made-more, next-taken}
 use Rattle.opentelemetry_sdk.proofs.metrics.shared.batch.record_each.Goals as goal
 
 pub record_one-requires-clause-batch : goal.record_one-requires-clause-batch

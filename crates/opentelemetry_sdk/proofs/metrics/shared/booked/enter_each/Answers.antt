@@ -1,4 +1,4 @@
-use Rattle.std.proofs.Common.{◌≡◌, ◌∙◌, ◌<◌, ◌∷◌, [], ℕ, List, length, take, drop, sum_by, sym, ap, arith, length-drop}
+use Rattle.std.proofs.Common.{◌∙◌, ◌<◌, ◌∷◌, [], ℕ, List, length, take, sum_by, sym, ap, arith}
 use Rattle.std.proofs.lemmas.List.Sums.{sum_by-append}
 use Rattle.opentelemetry_sdk.specs.Pending.{bits_in}
 use Rattle.opentelemetry_sdk.specs.Waiting.{Waits}

@@ -1,4 +1,4 @@
-use Rattle.std.proofs.Common.{◌∙◌, [], ◌∷◌, inr, refl}
+use Rattle.std.proofs.Common.{◌∙◌, [], ◌∷◌, inr}
 use Rattle.opentelemetry_sdk.specs.Waiting.{lent_record}
 use Rattle.opentelemetry_sdk.proofs.Full.{full-only}
 use Rattle.opentelemetry_sdk.proofs.metrics.shared.booked.Booked.make_first.Goals as goal

@@ -1,4 +1,4 @@
-use Rattle.std.proofs.Common.{◌≡◌, ◌∙◌, ◌+◌, ◌++◌, ◌∷◌, [], List, None, map, drop, length, position, ap, sym, subst, inl, inr, ⊎_elim, arith}
+use Rattle.std.proofs.Common.{◌≡◌, ◌∙◌, ◌++◌, ◌∷◌, [], List, None, map, drop, length, position, ap, sym, subst, inl, inr, ⊎_elim, arith}
 use Rattle.std.proofs.lemmas.List.{drop-map, get_or_push, length-map, length_push, map-append}
 use Rattle.std.specs.List.{AllByRecursion}
 use Rattle.indexmap.proofs.CallerLemmas.{insert_entry-new}
