@@ -1,7 +1,6 @@
 -- What records and other calls do to what all instruments have accepted.
-use Rattle.std.proofs.Common.{◌≡◌, ◌∙◌, ⊎_elim, ℕ, ◌+◌, false, List, [], ◌∷◌, map, sum_by, arith, Option, Some, None, Result, Ok, Err, length, refl, sym, ap, subst, true≢false}
+use Rattle.std.proofs.Common.{◌≡◌, ◌∙◌, ⊎_elim, ℕ, ◌+◌, false, List, [], ◌∷◌, map, sum_by, arith, Option, Some, None, Result, Ok, Err, length, refl, sym, ap, subst, true≢false, ◌%◌, ◌^◌, OnOk, IfErr}
 use Rattle.std.proofs.lemmas.List.Sums.{sum_by-cons}
-use Rattle.std.specs.Prelude.{◌%◌, ◌^◌, OnOk, IfErr}
 use Rattle.otel_common.specs.declared.faults.Fault.{Fault}
 use Rattle.otel_model_stream.specs.Folds.{Amount, wrap}
 use Rattle.otel_model.specs.Calls as model

@@ -1,7 +1,5 @@
 -- Collections that the provider makes are the model's.
-use Rattle.std.proofs.Common.{◌≡◌, ◌<◌, ◌≤◌, ℕ, zero, suc, Bool, true, false, cond, List, [], ◌∷◌, map, length, set, slice_get, slice_index_or, Option, Some, None, refl, sym, ◌∙◌, ap}
-use Rattle.std.specs.Prelude.{Result, Ok, Err, OnOk, OnErr, IfOk, IsOkUnless}
-use Rattle.std.proofs.lemmas.Bool.{lt-ltb, le-ltb}
+use Rattle.std.proofs.Common.{◌≡◌, ◌<◌, ℕ, zero, suc, Bool, false, cond, List, [], ◌∷◌, map, length, set, slice_get, slice_index_or, Option, Some, None, refl, sym, ◌∙◌, ap, Result, Ok, Err, OnOk, OnErr, IfOk, IsOkUnless, lt-ltb}
 use Rattle.std.proofs.lemmas.Option.{get_or_from_slice_get, slice_get_read, slice_get_within}
 use Rattle.otel_common.specs.declared.faults.Fault.{Fault}
 use Rattle.otel_common.specs.declared.faults.Fault.TheVariants as fault
@@ -39,14 +37,6 @@ abbrev fault_by : Bool → Bool → Option model.Fault → Option model.Fault
 fault_by known shut bad = cond known (cond shut (Some model.Fault.ReaderShutDown) bad) (Some model.Fault.UnknownReader)
 
 module _ (old : State) (r now : ℕ) (os : List model.Observed) where
-  -- there is no such reader
-  pub no-reader : length old.readers ≤ r → refusal old.shared (length old.readers) (model.Call.Collect r now os) ≡ Some model.Fault.UnknownReader
-  no-reader h = ap (λ b. fault_by b old.shared.shut (observations_refusal old.shared.instruments os)) (le-ltb r (length old.readers) h)
-
-  -- the provider was shut down
-  pub shut-reader : r < length old.readers → old.shared.shut ≡ true → refusal old.shared (length old.readers) (model.Call.Collect r now os) ≡ Some model.Fault.ReaderShutDown
-  shut-reader h closed = λ i. fault_by (lt-ltb r (length old.readers) h i) (closed i) (observations_refusal old.shared.instruments os)
-
   -- it was not, so what was observed decides
   by-observations : r < length old.readers → old.shared.shut ≡ false → refusal old.shared (length old.readers) (model.Call.Collect r now os) ≡ observations_refusal old.shared.instruments os
   by-observations h opened = λ i. fault_by (lt-ltb r (length old.readers) h i) (opened i) (observations_refusal old.shared.instruments os)

@@ -1,9 +1,8 @@
 -- Handles at all readers, and the calls on them as the machine makes them.
-use Rattle.std.proofs.Common.{◌≡◌, ℕ, ◌+◌, ◌<◌, ◌≤◌, ◌==◌, Bool, true, false, cond, List, [], ◌∷◌, ◌++◌, map, length, get_or, set, Option, Some, None, slice_get, nat_eq, refl, sym, ◌∙◌, ap, subst, arith, zero, suc, ne_eqb}
+use Rattle.std.proofs.Common.{◌≡◌, ℕ, ◌+◌, ◌<◌, ◌≤◌, ◌==◌, false, cond, List, [], ◌∷◌, ◌++◌, map, length, get_or, Option, Some, None, slice_get, nat_eq, refl, sym, ◌∙◌, ap, arith, zero, suc, ne_eqb, All}
 use Rattle.std.proofs.lemmas.Bool.Decides.{nat_tests}
 use Rattle.std.specs.List.{AllByRecursion as EachOf}
 use Rattle.std.specs.Map.{lookup, remove_entry}
-use Rattle.std.specs.Prelude.{All}
 use Rattle.otel_common.specs.declared.attributes.KeyValue.{KeyValue}
 use Rattle.otel_model.specs.Calls as model
 use Rattle.otel_model.specs.Calls.{is_observable}
@@ -17,6 +16,7 @@ use Rattle.otel_model.specs.Lawful.{HandlesAreSound, PartIsLawful, TakesRecords}
 use Rattle.otel_model.proofs.Handles.{unfed-unheld, later-unheld}
 use Rattle.otel_data.specs.declared.numbers.NumberValue.{NumberValue}
 use Rattle.otel_aggregate.specs.Any.{is_signed_value}
+use Rattle.otel_aggregate.proofs.All.{all-found}
 use Rattle.opentelemetry_sdk.specs.declared.pipeline.change.Change.TheVariants as change
 use Rattle.opentelemetry_sdk.specs.pipeline.Handles.{FeedsSynchronous, IsNewAt, IsHeldByFed, StandsFor}
 use Rattle.opentelemetry_sdk.specs.pipeline.Pipelines.{FeedsType, Piped, number_of, part_of}
@@ -38,12 +38,6 @@ held-stands n h place value ps typed sync held i d l = (refl, each-at (FeedsType
 pub unbind-stands : (n h : ℕ) (ps : List Piped) → EachOf (FeedsSynchronous n) (map part_of ps) → EachOf (IsHeldByFed n h) (map part_of ps) → All (StandsFor n (change.Unbind h) 0 (model.Call.Unbind h)) ps
 unbind-stands n h ps sync held i d l = (refl, each-at (FeedsSynchronous n) ps i d l sync, each-at (IsHeldByFed n h) ps i d l held)
 
--- what is done at the only reader is done at all
-pub done-alone : (g : ReaderPart → ReaderPart) (ps : List Piped) (d y : Piped) → length ps ≡ 1 → part_of y ≡ g (part_of (get_or ps 0 d)) → map part_of (set ps 0 y) ≡ map g (map part_of ps)
-done-alone g [] d y one is = absurd (omega (arith, one))
-done-alone g (p ∷ []) d y one is = ap (λ q. q ∷ []) is
-done-alone g (p ∷ q ∷ ps) d y one is = absurd (omega (arith, one))
-
 -- ======== what is known of handles ========
 -- an instrument that takes in records feeds no observable stream
 pub feeds-synchronous : (n : ℕ) (is : List InstrumentState) (i : InstrumentState) (ps : List ReaderPart) → slice_get is n ≡ Some i → is_observable i.kind ≡ false → AreTyped is ps → EachOf (FeedsSynchronous n) ps
@@ -64,19 +58,6 @@ pub held-fed : (s : Shared) (h n : ℕ) (ps : List ReaderPart) → HandlesAreSou
 held-fed s h n [] sound at all = tt
 held-fed s h n (p ∷ ps) sound at all = (unfed-unheld s p h n sound all.0 at, held-fed s h n ps sound at all.1)
 
--- the instrument of a live handle takes in records
-held-takes : (is : List InstrumentState) (h n : ℕ) (live : List LiveHandle) → instrument_held h live ≡ Some n → EachOf (λ (p : LiveHandle). TakesRecords is p.1) live → TakesRecords is n
-held-takes is h n [] e all = absurd (cc)
-held-takes is h n (p ∷ ps) e all = by (p.0 == h) e (λ q. held-takes is h n ps q all.1)
-  where
-    by : (b : Bool) → cond b (Some p.1) (instrument_held h ps) ≡ Some n → (instrument_held h ps ≡ Some n → TakesRecords is n) → TakesRecords is n
-    by true e rest = let same : p.1 ≡ n = cc in subst (TakesRecords is) same all.0
-    by false e rest = rest e
-
--- so it feeds no observable stream
-pub synchronous-held : (s : Shared) (h n : ℕ) (ps : List ReaderPart) → HandlesAreSound s → instrument_held h s.live ≡ Some n → AreTyped s.instruments ps → EachOf (FeedsSynchronous n) ps
-synchronous-held s h n ps sound at all = let t = held-takes s.instruments h n s.live at sound.synchronous in feeds-synchronous n s.instruments t.0 ps t.1 t.2 all
-
 -- the handle of a number, as a map of handles has it
 test-is : (h k : ℕ) → (k == h) ≡ nat_eq h k
 test-is h k = grind (arith, nat_tests)
@@ -84,6 +65,14 @@ test-is h k = grind (arith, nat_tests)
 pub held-lookup : (h : ℕ) (live : List LiveHandle) → instrument_held h live ≡ lookup (nat_eq h) live
 held-lookup h [] = refl
 held-lookup h (p ∷ ps) = λ i. cond (test-is h p.0 i) (Some p.1) (held-lookup h ps i)
+
+-- the instrument of a live handle takes in records
+held-takes : (is : List InstrumentState) (h n : ℕ) (live : List LiveHandle) → instrument_held h live ≡ Some n → EachOf (λ (p : LiveHandle). TakesRecords is p.1) live → TakesRecords is n
+held-takes is h n live e all = (all-found (λ (p : LiveHandle). TakesRecords is p.1) (nat_eq h) live n (sym (held-lookup h live) ∙ e) all).2
+
+-- so it feeds no observable stream
+pub synchronous-held : (s : Shared) (h n : ℕ) (ps : List ReaderPart) → HandlesAreSound s → instrument_held h s.live ≡ Some n → AreTyped s.instruments ps → EachOf (FeedsSynchronous n) ps
+synchronous-held s h n ps sound at all = let t = held-takes s.instruments h n s.live at sound.synchronous in feeds-synchronous n s.instruments t.0 ps t.1 t.2 all
 
 -- the instrument of a handle that the map has, or of one that it doesn't have
 pub held-as : (h : ℕ) (live : List LiveHandle) (o : Option ℕ) → o ≡ lookup (nat_eq h) live → instrument_held h live ≡ o

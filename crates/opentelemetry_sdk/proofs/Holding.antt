@@ -1,9 +1,8 @@
 -- Records of series, while handles are held for some of these.
-use Rattle.std.proofs.Common.{◌≡◌, ◌∙◌, ℕ, ◌+◌, ◌<◌, ◌==◌, Bool, true, false, cond, ◌||◌, List, [], ◌∷◌, ◌++◌, map, length, get_or, slice_get, take, add-one, Option, Some, None, refl, sym, ap, subst, arith, true≢false, eq-eqb, eqb-true}
+use Rattle.std.proofs.Common.{◌≡◌, ◌∙◌, ℕ, ◌+◌, ◌<◌, ◌==◌, Bool, true, false, cond, ◌||◌, List, [], ◌∷◌, ◌++◌, map, length, get_or, slice_get, take, add-one, Option, Some, None, refl, sym, ap, subst, arith, true≢false, eq-eqb, eqb-true, All}
 use Rattle.std.proofs.lemmas.List.{map-append}
 use Rattle.std.specs.List.{AllByRecursion as EachOf}
 use Rattle.std.specs.Cmp.{both_ways}
-use Rattle.std.specs.Prelude.{All}
 use Rattle.std.proofs.lemmas.List.Elements.{All-nil, All-pop, All-push, All-weaker}
 use Rattle.std.proofs.lemmas.List.Folds.{Any-from_list_any}
 use Rattle.otel_model_stream.specs.Events.{held_by}
@@ -12,6 +11,7 @@ use Rattle.otel_model.specs.Calls.{is_observable, WrongKind, Number, Call, Recor
 use Rattle.otel_model.specs.Machine.{part_after_call, stream_after}
 use Rattle.otel_model.specs.Sent.{is_fed, set_for}
 use Rattle.otel_model.specs.Streams.{aggregate_of, kind_of}
+use Rattle.otel_model.proofs.Amounts.{each_map}
 use Rattle.otel_model.proofs.Unheld.{unsent_keeps}
 use Rattle.otel_common.specs.declared.attributes.KeyValue.{KeyValue}
 use Rattle.otel_model.specs.Refusals.{record_refusal, number_refusal}
@@ -35,11 +35,6 @@ use Rattle.opentelemetry_sdk.specs.declared.metrics.shared.pending.ListedRecord.
 use Rattle.opentelemetry_sdk.specs.declared.metrics.shared.series.Series.{Series}
 
 -- ======== what readers' parts have in common with what is made of their streams ========
--- what holds of each
-pub each-made : (P : ReaderPart → Type 0) (f : ReaderPart → ReaderPart) → ((p : ReaderPart) → P p → P (f p)) → (ps : List ReaderPart) → EachOf P ps → EachOf P (map f ps)
-each-made P f e [] all = tt
-each-made P f e (p ∷ ps) all = (e p all.0, each-made P f e ps all.1)
-
 synchronous-without : (n : ℕ) (ts : List Temporary) (ps : List ReaderPart) → EachOf (FeedsSynchronous n) (parts_with ts ps) → EachOf (FeedsSynchronous n) ps
 synchronous-without n ts [] all = tt
 synchronous-without n ts (p ∷ ps) all = (all.0, synchronous-without n ts ps all.1)
@@ -128,20 +123,20 @@ module _ (first : ℕ) (ss : List Series) where
     pub holding-synchronous : (n : ℕ) → has_number n held ≡ true → EachOf (FeedsSynchronous (get_or ss n (series 0 [])).instrument) qs
     holding-synchronous n there =
         subst (λ xs. EachOf (FeedsSynchronous (get_or ss n (series 0 [])).instrument) xs) (sym is.parts)
-        (each-made _ _ (λ p h. h) ps (holding-recorded n there).1)
+        (each_map _ _ _ ps (λ p h. h) (holding-recorded n there).1)
 
     pub holding-typed : (n : ℕ) (v : Number) → FeedType n v ps → FeedType n v qs
-    holding-typed n v all = subst (FeedType n v) (sym is.parts) (each-made _ _ (λ p h. h) ps all)
+    holding-typed n v all = subst (FeedType n v) (sym is.parts) (each_map _ _ _ ps (λ p h. h) all)
 
     pub holding-feeds : (n : ℕ) → EachOf (FeedsSynchronous n) ps → EachOf (FeedsSynchronous n) qs
-    holding-feeds n all = subst (EachOf (FeedsSynchronous n)) (sym is.parts) (each-made _ _ (λ p h. h) ps all)
+    holding-feeds n all = subst (EachOf (FeedsSynchronous n)) (sym is.parts) (each_map _ _ _ ps (λ p h. h) all)
 
     -- what stays as it is whatever is recorded
     unheld-after : (c : ListedRecord) (n : ℕ) → n < length ss → AreUnheld (first + n) (map (part_after_call 0 (call_listed c)) ps)
     unheld-after c n lt = unheld-stays (first + n) c.instrument (number_of c.value) c.attributes.now ps (is.unheld n lt)
 
     recorded-after : (c : Call) → All (IsRecorded ss (map (part_after_call 0 c) ps)) held
-    recorded-after c = All-weaker (IsRecorded ss ps) (IsRecorded ss (map (part_after_call 0 c) ps)) (λ n h. (h.0, each-made _ _ (λ p f. f) ps h.1)) held is.recorded
+    recorded-after c = All-weaker (IsRecorded ss ps) (IsRecorded ss (map (part_after_call 0 c) ps)) (λ n h. (h.0, each_map _ _ _ ps (λ p f. f) h.1)) held is.recorded
 
     -- a record of any series
     pub holding-other : (r : ListedRecord) → IsHolding first ss held (map (part_after_call 0 (call_listed r)) ps) (map (part_after_call 0 (call_listed r)) qs)
@@ -188,7 +183,7 @@ module _ (first : ℕ) (ss : List Series) where
           recorded = All-push (IsRecorded ss (map (part_after_call 0 (call_listed r)) ps)) held r.place (recorded-after (call_listed r)) (
             at.0,
             subst (λ (s : Series). EachOf (FeedsSynchronous s.instrument) (map (part_after_call 0 (call_listed r)) ps)) (sym at.1)
-                (each-made _ _ (λ p h. h) ps (synchronous-without r.instrument ts ps (subst (EachOf (FeedsSynchronous r.instrument)) is.parts sync))),
+                (each_map _ _ _ ps (λ p h. h) (synchronous-without r.instrument ts ps (subst (EachOf (FeedsSynchronous r.instrument)) is.parts sync))),
           );
           once = once-push held r.place is.once new;
           settled = subst (λ xs. AreInParts xs (map (part_after_call 0 (call_listed r)) ps)) more made.1;
@@ -236,9 +231,6 @@ taken-synchronous o i given at fits = go (is_observable i.kind) refl
         absurd (cc)
 
 -- ======== records that are made one after another ========
-pub made-none : (first : ℕ) (ss : List Series) (held : List ℕ) (st : State) (qs : List ReaderPart) (is : List InstrumentState) → IsBatch first ss held st qs is → IsMade [] first ss held st qs is
-made-none first ss held st qs is b = record { new = st; done = refl; shared = λ i. record st.shared { instruments = b.instruments i }; batch = b }
-
 pub made-more : (calls : List Call) (call : Call) (first : ℕ) (ss : List Series) (held held' : List ℕ) (old : State) (qs qs' : List ReaderPart) (is is' : List InstrumentState) → IsMade calls first ss held old qs is
     → ((st : State) → IsBatch first ss held st qs is → IsMade (call ∷ []) first ss held' st qs' is') → IsMade (calls ++ call ∷ []) first ss held' old qs' is'
 made-more calls call first ss held held' old qs qs' is is' so_far next =

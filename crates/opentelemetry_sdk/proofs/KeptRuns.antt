@@ -1,6 +1,5 @@
 -- Calls and runs keep readers, whatever is called.
-use Rattle.std.proofs.Common.{◌≡◌, ⊎_elim, ℕ, List, ap, Result, Ok, Err}
-use Rattle.std.specs.Prelude.{IfOk, OnErr}
+use Rattle.std.proofs.Common.{◌≡◌, ⊎_elim, ℕ, List, ap, Result, Ok, Err, IfOk, OnErr}
 use Rattle.std.proofs.lemmas.Bool.{cases_eq}
 use Rattle.otel_common.specs.declared.faults.Fault.{Fault}
 use Rattle.otel_model.specs.Calls as model

@@ -1,10 +1,8 @@
 -- What calls make of readers, one call after another.
-use Rattle.std.proofs.Common.{◌≡◌, ℕ, Bool, true, false, cond, List, [], ◌∷◌, length, Option, Some, None, Result, Ok, Err, refl, sym, ◌∙◌, ap, subst, true≢false}
-use Rattle.std.specs.Prelude.{IsTrue, IfOk, OnErr}
+use Rattle.std.proofs.Common.{◌≡◌, ℕ, Bool, true, false, cond, List, [], ◌∷◌, length, Option, Some, None, Result, Ok, Err, refl, sym, ◌∙◌, ap, true≢false, IsTrue, IfOk, OnErr}
 use Rattle.std.specs.List.{list_any}
 use Rattle.std.proofs.lemmas.Bool.{or_parts}
 use Rattle.otel_common.specs.declared.faults.Fault.{Fault}
-use Rattle.otel_common.specs.declared.faults.Fault.TheVariants as fault
 use Rattle.otel_model.specs.Calls as model
 use Rattle.otel_model.specs.Demands.{Views}
 use Rattle.otel_model.specs.Machine.{accepted_after}
@@ -12,58 +10,13 @@ use Rattle.otel_model.specs.Refusals.{refusal}
 use Rattle.otel_model.specs.State.{State}
 use Rattle.otel_model.specs.Steps.{Step, answer_of, after, after_by, reply_by, asks_readers}
 use Rattle.otel_model.specs.Steps as steps
-use Rattle.otel_stream.specs.Requests.{Outcome, AllAsked, outcome_of, outcome_by, failures, first_failure}
-use Rattle.opentelemetry_sdk.specs.Correspondence.{reply_to}
-use Rattle.opentelemetry_sdk.specs.Readers.{AreReached, StepReaches, RunReaches, shut_after}
+use Rattle.otel_stream.specs.Requests.{Outcome}
+use Rattle.opentelemetry_sdk.specs.Readers.{StepReaches, RunReaches, shut_after}
 
--- ======== a flush or a shutdown is a call of the machine ========
-by-outcome : (views : Views) (old new : State) (call : model.Call) (failed : ℕ) (first : Option ℕ) → IsTrue (asks_readers call) → refusal old.shared (length old.readers) call ≡ None
-    → model.Reply.Done ≡ steps.reply_of old call → new ≡ after views old call → Step views old call (reply_to (outcome_by failed first)) new
-by-outcome views old new call failed None asks free done made = (done, made)
-by-outcome views old new call failed (Some first) asks free done made = (asks, free, made)
-
--- readers were asked
-asked-step : (views : Views) (old new : State) (call : model.Call) (result : Outcome) (answers : List Outcome) → IsTrue (asks_readers call) → refusal old.shared (length old.readers) call ≡ None
-    → answer_of old call ≡ model.Reply.Done → new ≡ accepted_after views old call → result ≡ outcome_of answers → Step views old call (reply_to result) new
-asked-step views old new call result answers asks free done made is =
-    let P : Outcome → Type 0 = λ r. Step views old call (reply_to r) new in
-    subst P (sym is) (by-outcome views old new call (failures answers) (first_failure answers) asks free
-    (sym (ap (λ o. reply_by o (answer_of old call)) free ∙ done))
-    (made ∙ sym (ap (λ o. after_by o old (accepted_after views old call)) free)))
-
--- none was
-refused-step : (views : Views) (old : State) (call : model.Call) (result : Outcome) → refusal old.shared (length old.readers) call ≡ Some model.Fault.AlreadyShutdown
-    → result ≡ Err fault.AlreadyShutdown → Step views old call (reply_to result) old
-refused-step views old call result refused is =
-    let P : Outcome → Type 0 = λ r. Step views old call (reply_to r) old in
-    subst P (sym is) (sym (ap (λ o. reply_by o (answer_of old call)) refused), sym (ap (λ o. after_by o old (accepted_after views old call)) refused))
-
+-- ======== whether a provider is shut down ========
 abbrev fault_by : Bool → Option model.Fault
 fault_by shut = cond shut (Some model.Fault.AlreadyShutdown) None
 
-pub flush-refused : (views : Views) (st : State) (result : Outcome) → st.shared.shut ≡ true → result ≡ Err fault.AlreadyShutdown → Step views st model.Call.Flush (reply_to result) st
-flush-refused views st result shut is = refused-step views st model.Call.Flush result (ap fault_by shut) is
-
-pub shutdown-refused : (views : Views) (st : State) (result : Outcome) → st.shared.shut ≡ true → result ≡ Err fault.AlreadyShutdown → Step views st model.Call.Shutdown (reply_to result) st
-shutdown-refused views st result shut is = refused-step views st model.Call.Shutdown result (ap fault_by shut) is
-
-pub flush-step : {R : Type 0} (does : R → R → Outcome → Type 0) (views : Views) (st : State) (before after : List R) (result : Outcome) → st.shared.shut ≡ false → AllAsked does before after result → Step views st model.Call.Flush (reply_to result) st
-flush-step does views st before after result opened asked = asked-step views st st model.Call.Flush result asked.0 refl (ap fault_by opened) refl refl asked.2
-
-pub shutdown-step : {R : Type 0} (does : R → R → Outcome → Type 0) (views : Views) (old new : State) (before after : List R) (result : Outcome) → old.shared.shut ≡ false → new ≡ accepted_after views old model.Call.Shutdown → AllAsked does before after result
-    → Step views old model.Call.Shutdown (reply_to result) new
-shutdown-step does views old new before after result opened made asked = asked-step views old new model.Call.Shutdown result asked.0 refl (ap fault_by opened) refl made asked.2
-
--- what was asked, by whether the provider was shut down
-pub reached-closed : {R : Type 0} (does : R → R → Outcome → Type 0) (shut : Bool) (before : List R) → shut ≡ true → AreReached does shut before before (Err fault.AlreadyShutdown)
-reached-closed does true before e = (refl, refl)
-reached-closed does false before e = absurd (true≢false (sym e))
-
-pub reached-open : {R : Type 0} (does : R → R → Outcome → Type 0) (shut : Bool) (before after : List R) (result : Outcome) → shut ≡ false → AllAsked does before after result → AreReached does shut before after result
-reached-open does true before after result e asked = absurd (true≢false e)
-reached-open does false before after result e asked = asked
-
--- ======== whether a provider is shut down ========
 after-shut : (o : Option model.Fault) (old new : State) → new.shared.shut ≡ old.shared.shut → (after_by o old new).shared.shut ≡ old.shared.shut
 after-shut None old new same = same
 after-shut (Some f) old new same = refl

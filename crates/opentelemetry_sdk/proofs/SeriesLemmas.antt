@@ -1,9 +1,8 @@
 -- Tables of series.
-use Rattle.std.proofs.Common.{zero, suc, ◌≡◌, ◌∙◌, ℕ, Bool, false, List, [], ◌∷◌, ◌++◌, map, position, slice_get, Option, Some, None, is_some, refl, sym, ap, true≢false}
+use Rattle.std.proofs.Common.{zero, suc, ◌≡◌, ◌∙◌, ℕ, Bool, false, List, [], ◌∷◌, map, position, slice_get, Option, Some, None, is_some, refl, sym, ap, true≢false, option_map}
 use Rattle.std.specs.List.{AllByRecursion}
 use Rattle.std.proofs.lemmas.Option.{slice_get-map}
 use Rattle.std.specs.Map.{lookup}
-use Rattle.std.specs.Option.{option_map}
 use Rattle.indexmap.proofs.MapLemmas.{some_index}
 use Rattle.indexmap.specs.Layout.{set_value_at}
 use Rattle.opentelemetry_sdk.specs.Lent.{shared_list}
@@ -18,10 +17,6 @@ nothing (Some x) e = absurd (true≢false e)
 -- a key without a place is not in the map
 pub absent : {K X : Type 0} (t : K → Bool) (es : List (K × X)) → position t (map (λ e. e.0) es) ≡ None → lookup t es ≡ None
 absent t es none = nothing (lookup t es) (sym (some_index t es) ∙ ap is_some none)
-
-pub all-push : {X : Type 0} (P : X → Type 0) (xs : List X) (x : X) → AllByRecursion P xs → P x → AllByRecursion P (xs ++ x ∷ [])
-all-push P [] x h p = (p, tt)
-all-push P (y ∷ xs) x h p = (h.0, all-push P xs x h.1 p)
 
 -- the series at a place
 pub key-at : (es : List (Series × SharedAttributes)) (i : ℕ) (e : Series × SharedAttributes) → Some e ≡ slice_get es i → slice_get (map (λ e. e.0) es) i ≡ Some e.0

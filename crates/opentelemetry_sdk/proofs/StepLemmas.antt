@@ -1,9 +1,7 @@
 -- Calls that the provider carries out are the model's.
-use Rattle.std.proofs.Common.{◌≡◌, ℕ, ◌+◌, ◌<◌, Bool, true, false, cond, not, ◌||◌, List, [], ◌∷◌, ◌++◌, map, length, take, Option, Some, None, slice_get, refl, sym, ◌∙◌, ap, subst, arith, true≢false}
-use Rattle.std.specs.Prelude.{Result, Ok, Err, OnOk, OnErr, IfOk, IsOkUnless, is_some, position}
+use Rattle.std.proofs.Common.{◌≡◌, ℕ, ◌+◌, ◌<◌, Bool, true, false, cond, not, ◌||◌, List, [], ◌∷◌, ◌++◌, map, length, take, Option, Some, None, slice_get, refl, sym, ◌∙◌, ap, subst, arith, true≢false, Result, Ok, Err, OnOk, OnErr, IfOk, IsOkUnless, is_some, position, append-nil}
 use Rattle.std.specs.List.{list_any, position_or_len}
 use Rattle.std.proofs.Math.Seq.{take-append_seam}
-use Rattle.std.proofs.lemmas.List.{append-nil}
 use Rattle.std.proofs.lemmas.Option.{slice_get_within}
 use Rattle.otel_common.specs.Scopes.{scope_eq, scope_eq-Decides}
 use Rattle.otel_common.specs.declared.attributes.KeyValue.{KeyValue}
@@ -144,13 +142,6 @@ module _ (old : State) where
   meter-made more scope n opened first made views = (
     ap model.Reply.Meter (meter_number scope old.shared.meters n first ∙ sym (ap (λ b. cond b None (number_from 0 scope (machine.with_meter scope old.shared.meters))) opened)),
     ap (λ ms. record old { shared = record old.shared { meters = ms } }) (made ∙ sym (ap (λ b. cond b old.shared.meters (machine.with_meter scope old.shared.meters)) opened)),
-  )
-
-  -- there is none once it was shut down
-  pub meter-none : (scope : InstrumentationScope) → old.shared.shut ≡ true → (views : Views) → Step views old (model.Call.Meter scope) (model.Reply.Meter None) old
-  meter-none scope closed views = (
-    ap model.Reply.Meter (sym (ap (λ b. cond b None (number_from 0 scope (machine.with_meter scope old.shared.meters))) closed)),
-    ap (λ ms. record old { shared = record old.shared { meters = ms } }) (sym (ap (λ b. cond b old.shared.meters (machine.with_meter scope old.shared.meters)) closed)),
   )
 
   -- a meter that is known stays as it is, where the provider was not shut down

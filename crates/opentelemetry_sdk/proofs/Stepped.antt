@@ -1,6 +1,5 @@
 -- Calls that are refused are steps of the model's machine.
-use Rattle.std.proofs.Common.{◌≡◌, ◌∙◌, ℕ, IsTrue, List, [], ◌∷◌, length, Some, None, Result, Err, refl, sym, ap, subst}
-use Rattle.otel_common.specs.declared.attributes.KeyValue.{KeyValue}
+use Rattle.std.proofs.Common.{◌≡◌, ◌∙◌, IsTrue, length, Some, None, refl, sym, ap, subst}
 use Rattle.otel_common.specs.declared.faults.Fault.{Fault}
 use Rattle.otel_common.specs.declared.faults.Fault.TheVariants as fault
 use Rattle.otel_common.specs.declared.faults.InternalFault.TheVariants as inner
@@ -10,7 +9,7 @@ use Rattle.otel_model.specs.Machine.{accepted_after}
 use Rattle.otel_model.specs.Refusals.{refusal}
 use Rattle.otel_model.specs.State.{State}
 use Rattle.otel_model.specs.Steps.{Step, takes_memory, answer_of, reply_by, after_by, reply_of, after}
-use Rattle.opentelemetry_sdk.specs.Correspondence.{fault_of, reply_from}
+use Rattle.opentelemetry_sdk.specs.Correspondence.{fault_of}
 use Rattle.opentelemetry_sdk.specs.States.{IsFault}
 
 -- refused by a fault that the machine names
@@ -42,15 +41,3 @@ pub memory-step : (views : Views) (old new : State) (call : model.Call) (f : Fau
 memory-step views old new call f takes is none same =
     let P : Fault → Type 0 = λ g. Step views old call (model.Reply.Refused (fault_of g)) new in
     subst P (sym is) (takes, none, same)
-
--- the same of a result
-pub memory-result : {X : Type 0} (reply : X → model.Reply) (views : Views) (old new : State) (call : model.Call) (r : Result X Fault) → IsTrue (takes_memory call) → r ≡ Err fault.OutOfMemory → refusal old.shared (length old.readers) call ≡ None → new ≡ old
-    → Step views old call (reply_from reply r) new
-memory-result {X} reply views old new call r takes is none same =
-    let P : Result X Fault → Type 0 = λ q. Step views old call (reply_from reply q) new in
-    subst P (sym is) (takes, none, same)
-
--- a record that attributes are given with may take memory
-pub record-takes : (n : ℕ) (v : model.Number) (l : List KeyValue) → (l ≡ [] → ⊥) → IsTrue (takes_memory (model.Call.Record n v l))
-record-takes n v [] some = absurd (some refl)
-record-takes n v (a ∷ l) some = refl

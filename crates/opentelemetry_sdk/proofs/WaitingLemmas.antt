@@ -1,7 +1,6 @@
 -- Lists of records that wait.
-use Rattle.std.proofs.Common.{position, IfSome, IfNone, Option, Some, None, is_some, true, true≢false, Contains, ◌≡◌, ◌∙◌, ℕ, ◌+◌, ◌<◌, List, [], ◌∷◌, ◌++◌, map, length, get_or, slice_get, drop, refl, sym, ap, add-one, arith, drop-cons}
+use Rattle.std.proofs.Common.{position, IfSome, IfNone, Option, Some, None, is_some, true, true≢false, Contains, ◌≡◌, ◌∙◌, ℕ, ◌+◌, ◌<◌, List, [], ◌∷◌, ◌++◌, map, length, get_or, slice_get, drop, refl, sym, ap, add-one, arith, drop-cons, ltb-true}
 use Rattle.std.proofs.Math.Dec.{ltb}
-use Rattle.std.proofs.lemmas.Bool.{ltb-true}
 use Rattle.std.proofs.lemmas.List.{drop-drop, drop-map, get_or_append_left}
 use Rattle.std.proofs.lemmas.List.Folds.{list_any_at}
 use Rattle.std.proofs.lemmas.List.Quantifiers.{position-Some}

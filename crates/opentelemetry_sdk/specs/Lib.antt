@@ -7,7 +7,6 @@ pub mod Checks
 pub mod Cores
 pub mod Correspondence
 pub mod Headline
-pub mod Instruments
 pub mod Known
 pub mod Lent
 pub mod Pending

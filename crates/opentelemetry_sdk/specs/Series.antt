@@ -1,9 +1,7 @@
 -- Series of records: an instrument and a list of attributes as given.
-use Rattle.std.specs.Prelude.{◌≡◌, ℕ, ◌==◌, ◌&&◌, ◌++◌, Bool, List}
+use Rattle.std.specs.Prelude.{◌≡◌, ℕ, ◌==◌, ◌&&◌, ◌++◌, Bool, List, Decides, flat_map}
 use Rattle.std.proofs.Common.{ap}
-use Rattle.std.specs.Bool.{Decides}
 use Rattle.std.specs.Cmp.{unsigned_Decides}
-use Rattle.std.specs.List.{flat_map}
 use Rattle.std.specs.Hash as fed
 use Rattle.std.specs.Hash.{HashWrites}
 use Rattle.otel_common.specs.Equality.{set_eq, set_eq-Decides, both_decide}

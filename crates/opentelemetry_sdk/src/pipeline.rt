@@ -46,6 +46,7 @@ mod vectors;
 /// What one reader answered, its streams in order of making, and, for each instrument, the streams that it feeds.
 pub struct Pipeline {
     pub(crate) alloc: Global,
+    /// What sets of attributes are hashed with, as the last build said.
     pub(crate) hasher: SetHashBuilder,
     pub(crate) answers: Answers,
     pub(crate) identities: IndexSet<Identity>,
@@ -101,11 +102,6 @@ impl Pipeline {
             streams: Vec::new(alloc),
             feeds: Vec::new(alloc),
         }
-    }
-
-    /// What sets of attributes are hashed with, as the last build said.
-    pub fn hasher(&self) -> SetHashBuilder {
-        self.hasher
     }
 
     /// Does nothing. Its clause says that each stream is told by its identity.

@@ -65,7 +65,7 @@ impl<P: Parts> Drop for ProviderBuilder<P> {
 pub struct Provider<P: Parts> {
     pub(crate) core: Core,
     pub(crate) views: Vec<P::View>,
-    readers: Vec<P::Reader>,
+    pub(crate) readers: Vec<P::Reader>,
     pub(crate) callbacks: Vec<Registered<P::ObserveU64, P::ObserveI64>>,
 }
 
@@ -289,27 +289,6 @@ impl<P: Parts> Provider<P> {
         (core, views, readers, callbacks)
     }
 
-    /// Makes a provider of what `into_parts` gave. Takes no memory.
-    pub(crate) fn from_parts(
-        core: Core,
-        views: Vec<P::View>,
-        readers: Vec<P::Reader>,
-        callbacks: Vec<Registered<P::ObserveU64, P::ObserveI64>>,
-    ) -> Provider<P>
-        ensures core { state_of result ≡ core.state }
-        ensures seeded { hash_seed_of result ≡ core.hash_seed }
-        ensures views { provider_views result ≡ views.items }
-        ensures readers { provider_readers result ≡ readers.items }
-        ensures callbacks { callbacks_of result ≡ callbacks.items }
-    {
-        Provider {
-            core,
-            views,
-            readers,
-            callbacks,
-        }
-    }
-
     /// Does nothing. Its clauses say that the streams of a provider balance, and that its state is lawful, whatever was
     /// called before: also where it was handed in, and before it is called.
     pub fn balances(&self)
@@ -395,7 +374,7 @@ impl<P: Parts> Provider<P> {
     {
         self.core.law_of_state();
         self.core.check_collection(reader)?;
-        let alloc = self.core.allocator();
+        let alloc = *self.callbacks.allocator();
         let observations = match run_callbacks(alloc, &mut self.callbacks) {
             Ok(observations) => observations,
             Err(fault) => return Err(fault),

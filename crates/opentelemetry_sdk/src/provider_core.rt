@@ -86,6 +86,7 @@ impl Core {
         ensures state { result.state ≡ new_state resource identity readers }
         ensures seeded { result.hash_seed ≡ hasher.seed }
     {
+        let NewReaders { pipelines } = readers;
         Core {
             alloc,
             hasher,
@@ -94,7 +95,7 @@ impl Core {
             identity,
             meters: IndexSet::new(alloc),
             instruments: Vec::new(alloc),
-            pipelines: readers.into_pipelines(),
+            pipelines,
             handles: Links::new(alloc, SetHashBuilder::default()),
             next: 0,
         }
@@ -107,16 +108,6 @@ impl Core {
         ensures lawful { IsLawful self.now.state }
     {
         let _ = &self.pipelines;
-    }
-
-    /// Returns the allocator.
-    pub fn allocator(&self) -> Global {
-        self.alloc
-    }
-
-    /// Returns what hashes sets of attributes.
-    pub fn hasher(&self) -> SetHashBuilder {
-        self.hasher
     }
 
     /// Returns the identity.

@@ -1,8 +1,7 @@
 -- Whether a stream resets, and by which demand it was made, whatever is done to it.
-use Rattle.std.proofs.Common.{◌≡◌, ℕ, Bool, true, false, cond, not, ◌&&◌, List, [], ◌∷◌, ◌++◌, map, Option, Some, None, Result, Ok, Err, is_none, refl, sym, ◌∙◌, ap, subst}
+use Rattle.std.proofs.Common.{◌≡◌, ℕ, Bool, true, false, cond, not, ◌&&◌, List, [], ◌∷◌, map, Option, Some, None, Result, Ok, Err, is_none, refl, sym, ◌∙◌, ap, subst, OnOk, OnErr}
 use Rattle.std.specs.Bool.{beq}
 use Rattle.std.specs.List.{AllByRecursion}
-use Rattle.std.specs.Prelude.{OnOk, OnErr}
 use Rattle.std.proofs.lemmas.Simd.{map-map}
 use Rattle.otel_common.specs.declared.attributes.KeyValue.{KeyValue}
 use Rattle.otel_data.specs.declared.numbers.NumberValue.{NumberValue}
@@ -75,7 +74,3 @@ module _ (P : Bool → Demand → Type 0) where
   answered-same (a ∷ new) (b ∷ old) e all =
       let parts : (answer_of b ≡ answer_of a) × (map answer_of new ≡ map answer_of old) = (cc, cc) in
       (subst (λ (x : Bool × Demand). P x.0 x.1) parts.0 all.0, answered-same new old parts.1 all.1)
-
-  pub answered-push : (ks : List StreamContents) (k : StreamContents) → OfAnswer P ks → P k.resets k.stream.demand → OfAnswer P (ks ++ k ∷ [])
-  answered-push [] k all is = (is, tt)
-  answered-push (m ∷ ks) k all is = (all.0, answered-push ks k all.1 is)

@@ -1,6 +1,5 @@
 -- What holds of the demands of an instrument.
-use Rattle.std.proofs.Common.{◌≡◌, ℕ, ℤ, Bool, true, false, cond, ◌&&◌, List, Option, Some, None, refl}
-use Rattle.std.specs.Prelude.{IfSome}
+use Rattle.std.proofs.Common.{◌≡◌, ℕ, ℤ, Bool, true, false, cond, ◌&&◌, List, Option, Some, None, refl, IfSome}
 use Rattle.std.specs.Option.{option_or, unwrap_or}
 use Rattle.std.proofs.lemmas.Bool.{and_parts}
 use Rattle.otel_common.specs.declared.metrics.Aggregation.{Aggregation}

@@ -1,6 +1,5 @@
 -- Whether an instrument feeds a stream, by the numbers that it feeds.
-use Rattle.std.proofs.Common.{◌≡◌, ◌==◌, ℕ, not, List, [], ◌∷◌, ◌++◌, length, slice_get, refl, ◌∙◌, ap, arith, ne_eqb}
-use Rattle.std.specs.Prelude.{All}
+use Rattle.std.proofs.Common.{◌≡◌, ◌==◌, ℕ, not, List, [], ◌∷◌, ◌++◌, length, slice_get, refl, ◌∙◌, ap, arith, ne_eqb, All}
 use Rattle.otel_model.specs.Calls.{or_else}
 use Rattle.otel_model.specs.Demands.{Identity, ReaderAnswers}
 use Rattle.opentelemetry_sdk.specs.pipeline.Pipelines.{AreNumbers, has_stream_at, named_identities, part_by, some_stream}

@@ -1,5 +1,5 @@
 -- What is done to handles stream by stream is the model's call.
-use Rattle.std.proofs.Common.{◌≡◌, ℕ, zero, suc, ◌+◌, ◌<◌, ◌==◌, length, eq-eqb, Bool, true, false, cond, not, ◌&&◌, ◌||◌, List, [], ◌∷◌, map, Option, Some, None, is_none, slice_get, refl, sym, ◌∙◌, ap, subst, arith, true≢false, get_or}
+use Rattle.std.proofs.Common.{◌≡◌, ℕ, zero, suc, ◌+◌, ◌<◌, ◌==◌, length, eq-eqb, Bool, true, false, cond, not, ◌&&◌, ◌||◌, List, [], ◌∷◌, map, Some, None, is_none, slice_get, refl, sym, ◌∙◌, ap, subst, arith, true≢false, get_or}
 use Rattle.std.specs.List.{AllByRecursion as EachOf}
 use Rattle.otel_common.specs.declared.attributes.KeyValue.{KeyValue}
 use Rattle.otel_data.specs.declared.numbers.NumberValue.{NumberValue}
@@ -12,7 +12,7 @@ use Rattle.otel_model_stream.specs.Machine.{hold, through, let_go}
 use Rattle.otel_model_stream.specs.Maps.{MapState}
 use Rattle.otel_model_stream.specs.Sets.{AttributeSet}
 use Rattle.otel_model_stream.specs.Totals.{has_number, size}
-use Rattle.otel_model.specs.Calls.{InstrumentKind, Counter, UpDownCounter, Histogram, ObservableCounter, ObservableUpDownCounter, Gauge, ObservableGauge, is_observable, Number, Call, Bind, RecordBound, Unbind}
+use Rattle.otel_model.specs.Calls.{InstrumentKind, ObservableCounter, ObservableUpDownCounter, is_observable, Call, Bind, RecordBound, Unbind}
 use Rattle.otel_model.specs.Demands as model
 use Rattle.otel_model.specs.Machine.{stream_after, part_after_call, if_held}
 use Rattle.otel_model.specs.Sent.{is_fed, set_for}
@@ -30,13 +30,9 @@ use Rattle.opentelemetry_sdk.proofs.pipeline.Records.{each-sent, fed-at, fits, n
 
 -- ======== kinds ========
 drained-by : (kind : InstrumentKind) → is_observable kind ≡ false → observes_sums kind ≡ false
-drained-by Counter e = refl
-drained-by UpDownCounter e = refl
-drained-by Histogram e = refl
 drained-by ObservableCounter e = absurd (true≢false e)
 drained-by ObservableUpDownCounter e = absurd (true≢false e)
-drained-by Gauge e = refl
-drained-by ObservableGauge e = absurd (true≢false e)
+drained-by kind e = refl
 
 -- a synchronous stream isn't drained
 pub undrained : (d : model.Demand) → is_observable d.identity.kind ≡ false → is_drained d ≡ false
@@ -54,15 +50,12 @@ of-rest P m ks all = by (is_streamed m) refl all
     by true e all = (rw e at all).1
     by false e all = rw e at all
 
-of-first : (P : Stream → Type 0) (m : StreamContents) (ks : List StreamContents) → EachOf P (model_streams (m ∷ ks)) → is_streamed m ≡ true → P m.stream
-of-first P m ks all e = (rw e at all).0
-
 -- holds of a stream, by its number
 pub of-streamed : (P : Stream → Type 0) (ks : List StreamContents) → EachOf P (model_streams ks) → (i : ℕ) (k : StreamContents) → slice_get ks i ≡ Some k → is_streamed k ≡ true → P k.stream
 of-streamed P [] all i k at s = absurd (cc)
 of-streamed P (m ∷ ks) all zero k at s =
     let same : m ≡ k = some_is m k at in
-    subst (λ (x : StreamContents). P x.stream) same (of-first P m ks all (ap is_streamed same ∙ s))
+    subst (λ (x : StreamContents). P x.stream) same (rw (ap is_streamed same ∙ s) at all).0
 of-streamed P (m ∷ ks) all (suc i) k at s = of-streamed P ks (of-rest P m ks all) i k at s
 
 -- ======== observations ========

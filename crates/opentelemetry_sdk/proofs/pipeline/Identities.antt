@@ -1,8 +1,8 @@
 -- The test of identities is equality, whichever stands first.
-use Rattle.std.proofs.Common.{◌≡◌, ℕ, zero, suc, Bool, true, false, ◌&&◌, List, [], ◌∷◌, Some, slice_get, position, refl, sym, ◌∙◌, ap, subst, option_map, true≢false, eq-eqb}
+use Rattle.std.proofs.Common.{◌≡◌, ℕ, zero, suc, Bool, true, false, ◌&&◌, List, [], ◌∷◌, Some, slice_get, position, refl, sym, ◌∙◌, ap, option_map, true≢false, eq-eqb, bytes_eq}
 use Rattle.std.specs.Bool.{beq, Decides}
+use Rattle.std.specs.Cmp.{both_ways}
 use Rattle.std.specs.List.{IsDistinct}
-use Rattle.otel_common.specs.Equality.{bytes_eq}
 use Rattle.otel_common.specs.Scopes.{scope_eq, scope_eq-Decides}
 use Rattle.otel_common.specs.declared.scopes.InstrumentationScope.{InstrumentationScope}
 use Rattle.otel_model.specs.Calls.{InstrumentKind, kind_eq, kind_number}
@@ -16,13 +16,7 @@ use Rattle.opentelemetry_sdk.specs.pipeline.Streams.{StreamContents}
 
 -- the same answer, with the two turned round
 flip : {X : Type 0} (eq : X → X → Bool) → ((x y : X) → eq x y ≡ true → x ≡ y) → ((x : X) → eq x x ≡ true) → (x y : X) → eq x y ≡ eq y x
-flip eq is self x y = by (eq x y) (eq y x) refl refl
-  where
-    by : (a b : Bool) → eq x y ≡ a → eq y x ≡ b → a ≡ b
-    by true true p q = refl
-    by false false p q = refl
-    by true false p q = sym (ap (λ z. eq z x) (sym (is x y p)) ∙ self x) ∙ q
-    by false true p q = sym p ∙ (ap (λ z. eq z y) (sym (is y x q)) ∙ self y)
+flip eq is self x y = both_ways (eq x y) (eq y x) (λ p. ap (λ z. eq z x) (sym (is x y p)) ∙ self x) (λ q. ap (λ z. eq z y) (sym (is y x q)) ∙ self y)
 
 pub test-flip : (x y : Identity) → identity_eq y x ≡ identity_eq x y
 test-flip x y = flip identity_eq identity_eq_true identity_eq_self y x
@@ -33,26 +27,13 @@ scope-flip x y = flip scope_eq (λ a b. (scope_eq-Decides a b).0) (λ a. (scope_
 -- a test of kinds that decides equality is the one of their numbers, and so of identities
 module _ (same : InstrumentKind → InstrumentKind → Bool) (law : (x y : InstrumentKind) → Decides (same x y) (x ≡ y)) where
   kind-same : (a b : InstrumentKind) → same a b ≡ kind_eq a b
-  kind-same a b = by (same a b) (kind_eq a b) refl refl
-    where
-      self : (k : InstrumentKind) → kind_eq k k ≡ true
-      self k = eq-eqb (kind_number k) (kind_number k) refl
-
-      by : (p q : Bool) → same a b ≡ p → kind_eq a b ≡ q → p ≡ q
-      by true true e f = refl
-      by false false e f = refl
-      by true false e f = sym (ap (kind_eq a) (sym ((law a b).0 e)) ∙ self a) ∙ f
-      by false true e f = sym e ∙ (law a b).1 (kind_eq_true a b f)
+  kind-same a b = both_ways (same a b) (kind_eq a b) (λ e. ap (kind_eq a) (sym ((law a b).0 e)) ∙ eq-eqb (kind_number a) (kind_number a) refl) (λ f. (law a b).1 (kind_eq_true a b f))
 
   abbrev pub test_of : Identity → Identity → Bool
   test_of x y = scope_eq x.scope y.scope && (same x.kind y.kind && (beq x.signed y.signed && (bytes_eq x.description y.description && (bytes_eq x.unit y.unit && bytes_eq x.name y.name))))
 
   pub test-same : test_of ≡ identity_eq
   test-same = λ i x y. scope_eq x.scope y.scope && (kind-same x.kind y.kind i && (beq x.signed y.signed && (bytes_eq x.description y.description && (bytes_eq x.unit y.unit && bytes_eq x.name y.name))))
-
-  -- what is told by that test is told by the model's
-  pub distinct-same : (xs : List Identity) → IsDistinct test_of xs → IsDistinct identity_eq xs
-  distinct-same xs d = subst (λ t. IsDistinct t xs) test-same d
 
   pub position-same : (x : Identity) (xs : List Identity) → position (test_of x) xs ≡ position (identity_eq x) xs
   position-same x xs = ap (λ (t : Identity → Identity → Bool). position (t x) xs) test-same

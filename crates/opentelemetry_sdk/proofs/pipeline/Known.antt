@@ -1,21 +1,17 @@
 -- What the streams of these numbers know, by their identities.
-use Rattle.std.proofs.Common.{◌≡◌, ◌⊎◌, inl, inr, ⊎_elim, ℕ, zero, suc, ◌<◌, Bool, true, false, cond, ◌&&◌, ◌||◌, List, [], ◌∷◌, ◌++◌, map, filter, length, get_or, Some, option_map, slice_get, refl, sym, ◌∙◌, ap, subst, arith, true≢false}
+use Rattle.std.proofs.Common.{◌≡◌, ⊎_elim, ℕ, zero, suc, ◌<◌, Bool, true, false, cond, ◌&&◌, List, [], ◌∷◌, ◌++◌, map, filter, length, get_or, Some, option_map, slice_get, refl, sym, ◌∙◌, ap, subst, arith, true≢false, All}
 use Rattle.std.specs.List.{list_all}
-use Rattle.std.specs.Prelude.{All}
 use Rattle.std.proofs.lemmas.Bool.{and_parts}
 use Rattle.std.proofs.lemmas.Option.{slice_get-map, slice_get_read}
 use Rattle.otel_common.specs.declared.attributes.KeyValue.{KeyValue}
 use Rattle.otel_model.specs.Demands.{Identity, identity_eq}
+use Rattle.otel_model.proofs.Feeding.{is_one}
 use Rattle.otel_model.proofs.Single.{some_is}
 use Rattle.opentelemetry_sdk.specs.pipeline.Known.{is_known_to, is_known_by, is_known_at, IsKnownIfThere}
 use Rattle.opentelemetry_sdk.specs.pipeline.Pipelines.{IsLawful, Piped, all_without_pending, fed_by, identity_of, is_streamed, model_streams, named_identities, part_of}
 use Rattle.opentelemetry_sdk.specs.pipeline.Streams.{StreamContents, without_pending}
 use Rattle.opentelemetry_sdk.proofs.pipeline.Identities.{AreApart, are_apart}
 use Rattle.opentelemetry_sdk.proofs.pipeline.Records.{HaveStreams, fed-named, fed-numbers, identity_at-is, numbers-named}
-
-either : (a b : Bool) → (a || b) ≡ true → (a ≡ true) ⊎ (b ≡ true)
-either true b e = inl refl
-either false b e = inr e
 
 -- a stream of this identity that knows them
 abbrev Found : List KeyValue → Identity → List StreamContents → Type 0
@@ -32,7 +28,7 @@ find l x (k ∷ ks) e = by (is_streamed k) e (λ q. later (find l x ks q))
     here t = (zero, k, refl, (and_parts (identity_eq (identity_of k) x) (is_known_to l k.stream) t).0, (and_parts (identity_eq (identity_of k) x) (is_known_to l k.stream) t).1)
 
     by : (b : Bool) → is_known_by l (map (λ (h : StreamContents). h.stream) (cond b (k ∷ filter is_streamed ks) (filter is_streamed ks))) x ≡ true → (is_known_by l (model_streams ks) x ≡ true → Found l x (k ∷ ks)) → Found l x (k ∷ ks)
-    by true e rest = ⊎_elim here rest (either (identity_eq (identity_of k) x && is_known_to l k.stream) (is_known_by l (model_streams ks) x) e)
+    by true e rest = ⊎_elim here rest (is_one (identity_eq (identity_of k) x && is_known_to l k.stream) (is_known_by l (model_streams ks) x) e)
     by false e rest = rest e
 
 -- where identities are apart that is the stream of this number

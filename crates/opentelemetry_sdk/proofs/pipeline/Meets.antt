@@ -1,6 +1,5 @@
 -- What meets demands, one after another.
-use Rattle.std.proofs.Common.{◌≡◌, ℕ, zero, suc, ◌<◌, Bool, true, false, cond, not, ◌||◌, List, [], ◌∷◌, ◌++◌, map, filter, fold, length, Some, None, slice_get, refl, sym, ◌∙◌, ap, subst, arith, append_assoc, true≢false}
-use Rattle.std.specs.Prelude.{is_some, take, All}
+use Rattle.std.proofs.Common.{◌≡◌, ℕ, zero, suc, ◌<◌, Bool, true, false, cond, not, ◌||◌, List, [], ◌∷◌, ◌++◌, map, filter, fold, length, Some, None, slice_get, refl, sym, ◌∙◌, ap, subst, arith, append_assoc, true≢false, is_some, take, All}
 use Rattle.std.proofs.Math.Bool.{or-false, or-true, or_assoc, or_comm}
 use Rattle.std.proofs.lemmas.Grind.{common_steps}
 use Rattle.std.proofs.lemmas.Map.Views.{any-filter_same}

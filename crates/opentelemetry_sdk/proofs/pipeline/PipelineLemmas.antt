@@ -1,16 +1,14 @@
 -- What calls leave of a reader's streams: their identities, and so their number.
-use Rattle.std.proofs.Common.{Bool, true, false, cond, ◌≡◌, ℕ, zero, suc, List, [], ◌∷◌, ◌++◌, map, filter, length, Option, Some, None, slice_get, refl, sym, ◌∙◌, ap, subst, arith}
-use Rattle.std.specs.Bool.{Decides}
-use Rattle.std.specs.List.{AllByRecursion, IsDistinct}
-use Rattle.std.specs.Prelude.{All}
+use Rattle.std.proofs.Common.{Bool, ◌≡◌, ℕ, zero, suc, List, [], ◌∷◌, ◌++◌, map, filter, length, Option, Some, None, slice_get, refl, sym, ◌∙◌, ap, arith, All}
+use Rattle.std.specs.List.{AllByRecursion}
 use Rattle.std.proofs.lemmas.Simd.{map-map}
-use Rattle.otel_model.specs.Calls.{InstrumentKind, or_else}
-use Rattle.otel_model.specs.Demands.{Identity, Demand, ReaderAnswers, identity_eq}
+use Rattle.otel_aggregate.proofs.All.{filter-map as left-map}
+use Rattle.otel_model.specs.Calls.{or_else}
+use Rattle.otel_model.specs.Demands.{Identity, Demand, ReaderAnswers}
 use Rattle.otel_model.specs.Streams.{is_delta}
-use Rattle.opentelemetry_sdk.specs.pipeline.Pipelines.{AreAnswered, AreFedOnce, AreNumbers, IsLawful, Piped, all_without_pending, changed_each, fates_of, stream_identities, part_by, part_changed_by, named_identities, identity_at, is_streamed, model_streams}
+use Rattle.opentelemetry_sdk.specs.pipeline.Pipelines.{AreAnswered, AreFedOnce, AreNumbers, Piped, all_without_pending, changed_each, fates_of, stream_identities, part_by, part_changed_by, named_identities, identity_at, is_streamed, model_streams}
 use Rattle.opentelemetry_sdk.specs.pipeline.Streams.{StreamContents, without_pending}
 use Rattle.opentelemetry_sdk.proofs.pipeline.Answered.{KeepsAnswer, answer_of, answered-same, answers-settled}
-use Rattle.opentelemetry_sdk.proofs.pipeline.Identities.{distinct-same, test_of}
 use Rattle.opentelemetry_sdk.proofs.pipeline.Writes.{length-seen, unseen-each}
 
 -- ======== what is read off the demands ========
@@ -65,22 +63,9 @@ sound-changed answers keys feeds old new f keeps ns e sound = sound-same answers
 pub sound-settled : (answers : ReaderAnswers) (keys : List Identity) (feeds : List (List ℕ)) (old new : List StreamContents) → all_without_pending new ≡ all_without_pending old → IsSound answers keys feeds old → IsSound answers keys feeds new
 sound-settled answers keys feeds old new e sound = sound-same answers keys feeds old new (answers-settled new old e) sound
 
--- by whichever test of identities the keys are apart
-pub lawful-keys : (same : InstrumentKind → InstrumentKind → Bool) (law : (x y : InstrumentKind) → Decides (same x y) (x ≡ y)) (keys : List Identity) (p : Piped) → IsDistinct (test_of same law) keys → IsSound p.answers keys p.feeds p.streams → IsLawful p
-lawful-keys same law keys p unique sound = record {
-  apart = subst (IsDistinct identity_eq) sound.0 (distinct-same same law keys unique);
-  numbers = sound.1;
-  once = sound.3;
-}
-
 -- ======== the model's part ========
 pub filter-map : {X Y : Type 0} (p : Y → Bool) (f : X → Y) (xs : List X) → filter p (map f xs) ≡ map f (filter (λ x. p (f x)) xs)
-filter-map p f [] = refl
-filter-map p f (x ∷ xs) = by (p (f x)) (filter-map p f xs)
-  where
-    by : (b : Bool) → filter p (map f xs) ≡ map f (filter (λ x. p (f x)) xs) → cond b (f x ∷ filter p (map f xs)) (filter p (map f xs)) ≡ map f (cond b (x ∷ filter (λ x. p (f x)) xs) (filter (λ x. p (f x)) xs))
-    by true rest = ap (λ ys. f x ∷ ys) rest
-    by false rest = rest
+filter-map p f xs = left-map f p xs
 
 streams-settled : (ks : List StreamContents) → model_streams (all_without_pending ks) ≡ model_streams ks
 streams-settled ks = ap (map (λ (h : StreamContents). h.stream)) (filter-map is_streamed without_pending ks) ∙ map-map (λ (h : StreamContents). h.stream) without_pending (filter is_streamed ks)

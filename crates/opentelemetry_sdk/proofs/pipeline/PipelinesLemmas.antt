@@ -1,6 +1,5 @@
 -- Lists whose elements are changed one after another.
-use Rattle.std.proofs.lemmas.List.{get_or_default}
-use Rattle.std.proofs.Common.{◌≡◌, ◌≢◌, ℕ, suc, ◌+◌, ◌<◌, ◌≤◌, List, [], ◌∷◌, map, length, get_or, set, refl, ◌∙◌, ap, arith, length-set, get_or-set_other, get_or-set_same, below_more}
+use Rattle.std.proofs.Common.{◌≡◌, ℕ, suc, ◌<◌, ◌≤◌, List, [], ◌∷◌, map, length, get_or, refl, arith}
 
 -- `seen` is what is seen of an element, `g` what is to be seen of it afterwards
 module _ {X Y : Type 0} (seen g : X → Y) where
@@ -9,19 +8,6 @@ module _ {X Y : Type 0} (seen g : X → Y) where
     pub long : length new ≡ length old
     pub done : (k : ℕ) → k < i → (d : X) → seen (get_or new k d) ≡ g (get_or old k d)
     pub rest : (k : ℕ) → i ≤ k → (d : X) → get_or new k d ≡ get_or old k d
-
-  pub done-none : (ps : List X) → IsDoneUpto ps ps 0
-  done-none ps = record { long = refl; done = λ k h d. absurd (omega arith); rest = λ k h d. refl }
-
-  -- one element more
-  pub done-more : (old new : List X) (i : ℕ) (d p : X) → i < length new → seen p ≡ g (get_or new i d) → IsDoneUpto old new i → IsDoneUpto old (set new i p) (i + 1)
-  done-more old new i d p h made so_far = record {
-    long = omega (arith, length-set {A = X}, so_far.long);
-    done = below_more _ _
-        (λ k l e. let other : k ≢ i = omega arith in rw get_or-set_other (so_far.done k l e))
-        (λ e. rw get_or-set_same (made ∙ ap g (so_far.rest i (omega arith) d ∙ get_or_default old i d e (omega (arith, so_far.long)))));
-    rest = λ k l e. let other : k ≢ i = omega arith in rw get_or-set_other (so_far.rest k (omega arith) e);
-  }
 
   agree : (old new : List X) → length new ≡ length old → ((k : ℕ) → k < length old → (d : X) → seen (get_or new k d) ≡ g (get_or old k d)) → map seen new ≡ map g old
   agree [] [] e h = refl

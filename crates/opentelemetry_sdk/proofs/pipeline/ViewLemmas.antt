@@ -1,9 +1,8 @@
 -- What the answers of views demand.
-use Rattle.std.proofs.Common.{◌≡◌, ℕ, ◌+◌, ◌<◌, ℤ, Bool, true, false, cond, not, ◌&&◌, ◌||◌, List, [], ◌∷◌, ◌++◌, fold, take, get_or, length, Option, Some, None, is_some, is_none, refl, sym, ◌∙◌, ap, subst, append_assoc, add-one}
+use Rattle.std.proofs.Common.{◌≡◌, ℕ, ◌+◌, ◌<◌, ℤ, Bool, true, cond, not, ◌&&◌, ◌||◌, List, [], ◌∷◌, ◌++◌, fold, take, get_or, length, Option, Some, None, is_some, is_none, refl, sym, ◌∙◌, ap, subst, append_assoc, add-one, append-nil}
 use Rattle.std.specs.List.{list_any}
 use Rattle.std.proofs.Math.Seq.{take-suc}
 use Rattle.std.proofs.lemmas.Bool.{and_parts}
-use Rattle.std.proofs.lemmas.List.{append-nil}
 use Rattle.std.proofs.lemmas.List.Elements.{filter-append}
 use Rattle.otel_common.specs.declared.metrics.Aggregation.{Aggregation}
 use Rattle.otel_common.specs.declared.metrics.Aggregation.TheVariants.{Default, ExplicitBucketHistogram}
@@ -104,14 +103,6 @@ module _ (answers : ReaderAnswers) (scope : InstrumentationScope) (about : About
 pub good-bounds : (o : Option InstrumentationScope) (scope : InstrumentationScope) (about : About) → o ≡ Some scope → IsGoodIn o about → model.are_good_bounds about.kind about.bounds ≡ true
 good-bounds o scope about e good = (and_parts (is_none (optional_unit_fault about.unit)) (model.are_good_bounds about.kind about.bounds) (and_parts (is_good_name about.name) _ (subst (λ s. IsGoodIn s about) e good)).1).1
 
--- an aggregation that can't be used is not demanded
-pub unfit-demands : (answers : ReaderAnswers) (scope : InstrumentationScope) (about : About) (s : StreamSpec) → can_keep about.kind s.aggregation ≡ false → usable_answer answers scope about (Some s) ≡ []
-unfit-demands answers scope about s e = ap (λ b. cond b (demand_of answers scope about s ∷ []) []) (compatible-is answers scope about s ∙ e)
-
 -- one that can is
 pub fit-demands : (answers : ReaderAnswers) (scope : InstrumentationScope) (about : About) (s : StreamSpec) → can_keep about.kind s.aggregation ≡ true → usable_answer answers scope about (Some s) ≡ demand_of answers scope about s ∷ []
 fit-demands answers scope about s e = ap (λ b. cond b (demand_of answers scope about s ∷ []) []) (compatible-is answers scope about s ∙ e)
-
--- nothing more
-pub met-same : (now : ℕ) (old new : Piped) (ns : List ℕ) (more : List Demand) → more ≡ [] → (ds : List Demand) → AreMet now ds old new ns → AreMet now (ds ++ more) old new ns
-met-same now old new ns more e ds met = subst (λ (l : List Demand). AreMet now l old new ns) (sym (append-nil ds) ∙ ap (λ m. ds ++ m) (sym e)) met

@@ -98,12 +98,12 @@ pub(crate) enum SharedAttributes {
 }
 
 impl SharedAttributes {
-    /// Another owner, and the list. Takes no memory: once 2^63 - 1 owners are counted, the list is left to last.
-    fn divide(self) -> (SharedAttributes, Owned)
-        ensures kept { shared_list result.0 ≡ shared_list self }
-        ensures shared { owned_list result.1 ≡ shared_list self }
+    /// Another owner of the list. Takes no memory: once 2^63 - 1 owners are counted, the list is left to last.
+    pub(crate) fn share(&mut self) -> RecordAttributes
+        ensures shared { result ≡ shared_list self.old }
+        ensures kept { shared_list self.new ≡ shared_list self.old }
     {
-        match self {
+        let (list, owned) = match replace(self, SharedAttributes::Empty) {
             SharedAttributes::Empty => (SharedAttributes::Empty, Owned::Empty),
             SharedAttributes::Counted(items) => match items.share() {
                 Ok(shared) => (SharedAttributes::Counted(items), Owned::Shared(shared)),
@@ -115,15 +115,7 @@ impl SharedAttributes {
             SharedAttributes::Lasting(items) => {
                 (SharedAttributes::Lasting(items), Owned::Lasting(items))
             }
-        }
-    }
-
-    /// Another owner of the list. Takes no memory.
-    pub(crate) fn share(&mut self) -> RecordAttributes
-        ensures shared { result ≡ shared_list self.old }
-        ensures kept { shared_list self.new ≡ shared_list self.old }
-    {
-        let (list, owned) = replace(self, SharedAttributes::Empty).divide();
+        };
         *self = list;
         RecordAttributes { owned }
     }

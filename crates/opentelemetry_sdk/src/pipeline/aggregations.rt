@@ -5,7 +5,7 @@ ghost use Rattle.otel_aggregate.specs.Any as any;
 ghost use Rattle.otel_model.specs.Calls.{is_observable};
 ghost use Rattle.otel_model.specs.Demands as demands;
 ghost use Rattle.otel_model.specs.Demands.{resets};
-ghost use Rattle.otel_model.specs.Streams.{aggregate_of, is_delta, is_drained, is_monotonic_kind, observes_sums};
+ghost use Rattle.otel_model.specs.Streams.{aggregate_of, is_delta, is_drained, is_monotonic_kind};
 ghost use Rattle.opentelemetry_sdk.specs.pipeline.Streams.{IsMakeable, asks_monotonic};
 
 use otel_aggregate::aggregators::bounds::Bounds;
@@ -46,16 +46,6 @@ fn is_monotonic(kind: InstrumentKind) -> bool
     )
 }
 
-/// Whether a kind observes values that are already summed.
-fn observes_sums(kind: InstrumentKind) -> bool
-    ensures { result ≡ observes_sums kind }
-{
-    matches!(
-        kind,
-        InstrumentKind::ObservableCounter | InstrumentKind::ObservableUpDownCounter
-    )
-}
-
 /// The temporality of the stream of this demand at a reader with these answers. The last values of an asynchronous gauge
 /// start again at each collection, whatever the reader answers.
 pub(crate) fn temporality_of(answers: &Answers, demand: &Demand) -> Temporality
@@ -90,9 +80,16 @@ pub(crate) fn settings_of(demand: &Demand) -> Result<AnySettings, Fault>
                 has_sum: is_monotonic(kind) || matches!(kind, InstrumentKind::Gauge),
             }))
         }
-        Aggregation::Sum if observes_sums(kind) => Ok(AnySettings::PrecomputedSum {
-            is_monotonic: is_monotonic(kind),
-        }),
+        Aggregation::Sum
+            if matches!(
+                kind,
+                InstrumentKind::ObservableCounter | InstrumentKind::ObservableUpDownCounter
+            ) =>
+        {
+            Ok(AnySettings::PrecomputedSum {
+                is_monotonic: is_monotonic(kind),
+            })
+        }
         Aggregation::Sum | Aggregation::Drop | Aggregation::Default => Ok(AnySettings::Sum {
             is_monotonic: is_monotonic(kind),
         }),

@@ -1,9 +1,8 @@
 //! The aggregation of a stream if no view gives one (Metrics SDK, "MetricReader").
 
-ghost use Rattle.std.specs.Prelude.{◌≡◌, Some, None, IfOk, IsOkUnless};
-ghost use Rattle.otel_model.specs.Demands.{is_valid, kind_default, reader_default, resolved_aggregation};
+ghost use Rattle.std.specs.Prelude.{◌≡◌, IfOk, IsOkUnless};
+ghost use Rattle.otel_model.specs.Demands.{is_valid, kind_default, reader_default};
 
-use crate::pipeline::about::About;
 use otel_common::bounds::is_rising;
 use otel_common::faults::Fault;
 use otel_common::laws::copied_aggregation;
@@ -60,29 +59,5 @@ pub fn reader_default(
             Ok(wanted.clone()?)
         }
         Some(_) => kind_default(alloc, kind),
-    }
-}
-
-/// The aggregation of an instrument's stream if no view gives one: the reader's default, with the instrument's own
-/// bounds if it is a histogram that gives some.
-pub fn resolved_own(
-    alloc: Global,
-    answers: &Answers,
-    about: &About<'_>,
-) -> Result<Aggregation, Fault>
-    ensures aggregation { IfOk result (λ made. made ≡ resolved_aggregation answers.now about.now None) }
-    ensures only_memory { IsOkUnless result Fault.OutOfMemory }
-{
-    let aggregation = reader_default(alloc, answers, about.kind)?;
-    match (aggregation, about.kind, about.bounds) {
-        (
-            Aggregation::ExplicitBucketHistogram { record_min_max, .. },
-            InstrumentKind::Histogram,
-            Some(own),
-        ) => Ok(Aggregation::ExplicitBucketHistogram {
-            boundaries: own.clone()?,
-            record_min_max,
-        }),
-        (aggregation, _, _) => Ok(aggregation),
     }
 }

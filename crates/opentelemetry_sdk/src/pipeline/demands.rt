@@ -6,7 +6,7 @@ ghost use Rattle.otel_model.specs.Calls.{ascii_lowercase, or_else};
 ghost use Rattle.otel_model.specs.Demands.{demand_of, are_good_bounds, is_valid, resolved_aggregation};
 
 use crate::pipeline::about::About;
-use crate::pipeline::defaults::{reader_default, resolved_own};
+use crate::pipeline::defaults::reader_default;
 use otel_common::faults::Fault;
 use otel_common::laws::{copied_aggregation, copied_attributes, copied_scope};
 use otel_common::metrics::Aggregation;
@@ -14,6 +14,7 @@ use otel_common::scopes::InstrumentationScope;
 use otel_common::strings::StringValue;
 use otel_stream::answers::Answers;
 use otel_stream::demand::{Demand, Identity};
+use otel_stream::instrument::InstrumentKind;
 use otel_stream::stream::Stream;
 use std::alloc::Global;
 
@@ -58,9 +59,21 @@ fn aggregation_of(
 {
     copied_aggregation();
     match set {
-        None => resolved_own(alloc, answers, about),
-        Some(Aggregation::Default) => reader_default(alloc, answers, about.kind),
-        Some(aggregation) => Ok(aggregation.clone()?),
+        None => {}
+        Some(Aggregation::Default) => return reader_default(alloc, answers, about.kind),
+        Some(aggregation) => return Ok(aggregation.clone()?),
+    }
+    let aggregation = reader_default(alloc, answers, about.kind)?;
+    match (aggregation, about.kind, about.bounds) {
+        (
+            Aggregation::ExplicitBucketHistogram { record_min_max, .. },
+            InstrumentKind::Histogram,
+            Some(own),
+        ) => Ok(Aggregation::ExplicitBucketHistogram {
+            boundaries: own.clone()?,
+            record_min_max,
+        }),
+        (aggregation, _, _) => Ok(aggregation),
     }
 }
 

@@ -55,7 +55,11 @@ fn make(
     instruments.reserve(1)?;
     build_or_none(pipelines, hasher, scope, about, answered, now)?;
     let number = instruments.len();
-    instruments.push_reserved(Instrument::new(sort));
+    instruments.push_reserved(Instrument {
+        sort,
+        count: 0,
+        sum: 0,
+    });
     Ok(number)
 }
 

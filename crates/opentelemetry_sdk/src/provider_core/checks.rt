@@ -20,14 +20,6 @@ use otel_data::numbers::NumberValue;
 use otel_stream::instrument::InstrumentKind;
 use otel_stream::observation::Observed;
 
-/// Whether a value is of type `i64`.
-#[inline]
-fn is_signed(value: NumberValue) -> bool
-    ensures { result ≡ is_signed_value value }
-{
-    matches!(value, NumberValue::I64(_))
-}
-
 /// Whether the name, the unit and the bounds of an instrument are good. Only the bounds of a histogram are checked.
 fn is_good(about: &About<'_>) -> bool
     ensures { result ≡ is_good about.now }
@@ -86,10 +78,10 @@ pub(crate) fn check_value(
     let Some(found) = instruments.get(instrument) else {
         return Err(Fault::UnknownInstrument);
     };
-    if found.is_observable() {
+    if found.sort.is_observable() {
         return Err(Fault::WrongKind);
     }
-    if found.is_signed() != is_signed(value) {
+    if found.sort.is_signed() != matches!(value, NumberValue::I64(_)) {
         return Err(Fault::WrongNumber);
     }
     Ok(())
@@ -105,10 +97,10 @@ fn check_observation(instruments: &[Instrument], observed: &Observed) -> Result<
     let Some(found) = instruments.get(observed.instrument) else {
         return Err(Fault::UnknownInstrument);
     };
-    if !found.is_observable() {
+    if !found.sort.is_observable() {
         return Err(Fault::WrongKind);
     }
-    if found.is_signed() != is_signed(observed.value) {
+    if found.sort.is_signed() != matches!(observed.value, NumberValue::I64(_)) {
         return Err(Fault::WrongNumber);
     }
     Ok(())
@@ -128,7 +120,7 @@ pub(crate) fn check_bind(
     let Some(found) = instruments.get(instrument) else {
         return Err(Fault::UnknownInstrument);
     };
-    if found.is_observable() {
+    if found.sort.is_observable() {
         return Err(Fault::WrongKind);
     }
     if next == u64::MAX {
@@ -151,7 +143,7 @@ pub(crate) fn check_held(
     let Some(found) = instruments.get(instrument) else {
         return Err(Fault::UnknownHandle);
     };
-    if found.is_signed() != is_signed(value) {
+    if found.sort.is_signed() != matches!(value, NumberValue::I64(_)) {
         return Err(Fault::WrongNumber);
     }
     Ok(())

@@ -24,7 +24,8 @@ use otel_data::numbers::NumberValue;
 use otel_stream::stream::Stream;
 use std::alloc::AllocError;
 
-/// Prepares a record or, if `binds`, a bind in the streams that an instrument feeds, at all readers.
+/// Prepares a record or, if `binds`, a bind in the streams that an instrument feeds, at all readers. Hashes the attributes
+/// once if several readers are to look them up.
 #[inline(always)]
 fn prepare_all(
     pipelines: &mut [Pipeline],
@@ -36,8 +37,12 @@ fn prepare_all(
     ensures ready { OnOk result (All (IsReadyFor binds instrument attributes.now) pipelines.new) }
     ensures known { binds ≡ false → list_all (is_known_at instrument attributes.now) (map part_of pipelines.old) ≡ true → IsOk result }
 {
+    let Some(first) = pipelines.first() else {
+        return Ok(());
+    };
+    let given = attributes.hashed_for(pipelines.len(), first.hasher);
     for i in 0..pipelines.len() {
-        pipelines[i].prepare(instrument, attributes, binds)?;
+        pipelines[i].prepare(instrument, &given, binds)?;
     }
     Ok(())
 }
@@ -98,16 +103,6 @@ pub(crate) fn build_or_none(
     Ok(())
 }
 
-/// The attributes of a record or a bind, with their hash if several readers are to look them up.
-fn given_at<'a>(pipelines: &[Pipeline], attributes: &GivenAttributes<'a>) -> GivenAttributes<'a>
-    ensures { result ≡ attributes.now }
-{
-    match pipelines.first() {
-        Some(first) => attributes.hashed_for(pipelines.len(), first.hasher()),
-        None => GivenAttributes::new(attributes.as_slice()),
-    }
-}
-
 /// Makes a record with attributes in the streams that an instrument feeds, at all readers or at none. Out of line, so that
 /// a record without attributes is short.
 #[inline(never)]
@@ -122,8 +117,7 @@ fn record_given(
     ensures err { OnErr result (map part_of pipelines.new ≡ map part_of pipelines.old) }
     ensures known { list_all (is_known_at instrument attributes.now) (map part_of pipelines.old) ≡ true → IsOk result }
 {
-    let given = given_at(pipelines, attributes);
-    prepare_all(pipelines, instrument, &given, false)?;
+    prepare_all(pipelines, instrument, attributes, false)?;
     change_all(pipelines, instrument, Change::Prepared(value));
     Ok(())
 }
@@ -170,7 +164,6 @@ pub(crate) fn bind_or_none(
     ensures err { OnErr result (map part_of pipelines.new ≡ map part_of pipelines.old) }
     ensures only_memory { IsOkUnless result Fault.OutOfMemory }
 {
-    let given = given_at(pipelines, attributes);
-    prepare_all(pipelines, instrument, &given, true)?;
+    prepare_all(pipelines, instrument, attributes, true)?;
     Ok(change_all(pipelines, instrument, Change::Bind(handle)))
 }

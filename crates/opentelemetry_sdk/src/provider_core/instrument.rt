@@ -1,9 +1,7 @@
 //! Instruments, as the provider keeps them.
 
 ghost use Rattle.std.specs.Prelude.{◌≡◌};
-ghost use Rattle.otel_model.specs.Calls.{is_observable};
 ghost use Rattle.otel_model.specs.Machine.{instrument_after_record};
-ghost use Rattle.opentelemetry_sdk.specs.Instruments.{new_state};
 ghost use Rattle.opentelemetry_sdk.specs.Correspondence.{number_of};
 
 use crate::values::sorts::InstrumentSort;
@@ -14,9 +12,9 @@ use std::marker::Model;
 /// An instrument, with the number and the sum of the records that it has accepted, both modulo 2^64.
 #[derive(Drop)]
 pub(crate) struct Instrument {
-    sort: InstrumentSort,
-    count: u64,
-    sum: u64,
+    pub(crate) sort: InstrumentSort,
+    pub(crate) count: u64,
+    pub(crate) sum: u64,
 }
 
 impl Model for Instrument {
@@ -29,31 +27,6 @@ impl Model for Instrument {
 }
 
 impl Instrument {
-    /// Makes an instrument that has accepted nothing yet.
-    pub(crate) fn new(sort: InstrumentSort) -> Instrument
-        ensures { result ≡ new_state sort }
-    {
-        Instrument {
-            sort,
-            count: 0,
-            sum: 0,
-        }
-    }
-
-    /// Whether its values come from callbacks, and not from records.
-    pub(crate) fn is_observable(&self) -> bool
-        ensures { result ≡ is_observable self.now.kind }
-    {
-        self.sort.is_observable()
-    }
-
-    /// Whether its values are of type `i64`.
-    pub(crate) fn is_signed(&self) -> bool
-        ensures { result ≡ self.now.signed }
-    {
-        self.sort.is_signed()
-    }
-
     /// Counts a record.
     pub(crate) fn accept(&mut self, value: NumberValue)
         ensures { self.new ≡ instrument_after_record (number_of value).amount self.old }

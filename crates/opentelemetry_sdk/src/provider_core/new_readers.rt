@@ -17,7 +17,8 @@ use std::marker::Model;
 /// to make a provider's core takes no memory.
 #[derive(Drop)]
 pub struct NewReaders {
-    pipelines: Vec<Pipeline>,
+    /// The streams of each reader, of which there are none yet.
+    pub(crate) pipelines: Vec<Pipeline>,
 }
 
 impl Model for NewReaders {
@@ -55,13 +56,5 @@ impl NewReaders {
         let pipeline = Pipeline::new(alloc, SetHashBuilder::default(), answers);
         self.pipelines.push(pipeline)?;
         Ok(())
-    }
-
-    /// Returns the streams of each reader, of which there are none yet.
-    pub(crate) fn into_pipelines(self) -> Vec<Pipeline>
-        ensures { map part_of result.items ≡ map new_part self }
-    {
-        let NewReaders { pipelines } = self;
-        pipelines
     }
 }

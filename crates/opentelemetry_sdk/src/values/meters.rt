@@ -178,7 +178,7 @@ impl<P: Parts> Provider<P> {
         ensures callbacks { callbacks_of self.new ≡ callbacks_of self.old }
     {
         self.core.law_of_state();
-        let alloc = self.core.allocator();
+        let alloc = *self.views.allocator();
         let name = String::from_str(alloc, name)?;
         let scope = scope_named(alloc, name)?;
         self.meter_with_scope(scope)

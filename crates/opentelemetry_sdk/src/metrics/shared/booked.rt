@@ -199,7 +199,7 @@ impl<C: Account, S: Account> Booked<C, S> {
         Ok(Worker {
             identity: self.core.identity(),
             number,
-            waiting: Waiting::new(self.core.allocator(), self.core.hasher()),
+            waiting: Waiting::new(self.core.alloc, self.core.hasher),
             submitted: 0,
             records,
             values,

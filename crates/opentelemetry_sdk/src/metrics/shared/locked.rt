@@ -174,7 +174,7 @@ impl<P: Parts, C: Account, S: Account> Locked<P, C, S> {
     {
         self.booked.core.law_of_state();
         self.booked.core.check_collection(reader)?;
-        let alloc = self.booked.core.allocator();
+        let alloc = *self.callbacks.allocator();
         let observations = match run_callbacks(alloc, &mut self.callbacks) {
             Ok(observations) => observations,
             Err(fault) => return Err(fault),
@@ -325,7 +325,12 @@ impl<P: Parts, C: Account, S: Account> Locked<P, C, S> {
             callbacks,
         } = self;
         match booked.settle(workers) {
-            Ok(core) => Ok(Provider::from_parts(core, views, readers, callbacks)),
+            Ok(core) => Ok(Provider {
+                core,
+                views,
+                readers,
+                callbacks,
+            }),
             Err((fault, booked, workers)) => Err((
                 fault,
                 Locked {

@@ -73,11 +73,6 @@ impl WaitingRecord {
             ),
         }
     }
-
-    /// Whether it is through a handle.
-    pub(crate) fn is_bound(self) -> bool {
-        matches!(self, WaitingRecord::Bound { .. })
-    }
 }
 
 /// A record of a series that waits: where the series stands among those that its worker knows, and what makes the record.

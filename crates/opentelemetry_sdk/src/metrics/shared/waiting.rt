@@ -103,15 +103,13 @@ impl Waiting {
 
     /// How many records wait before the first one through a handle; 0 if one that isn't through a handle was just made.
     pub(crate) fn count_listed(&self) -> usize {
-        if self.made > 0 && !self.records[self.made - 1].is_bound() {
+        if self.made > 0 && matches!(self.records[self.made - 1], WaitingRecord::Plain { .. }) {
             return 0;
         }
-        for number in self.made..self.records.len() {
-            if self.records[number].is_bound() {
-                return number - self.made;
-            }
-        }
-        self.len()
+        self.records[self.made..]
+            .iter()
+            .take_while(|record| matches!(record, WaitingRecord::Plain { .. }))
+            .count()
     }
 
     /// How many of the first records that wait, up to this many, are of each series, by the places of the series.

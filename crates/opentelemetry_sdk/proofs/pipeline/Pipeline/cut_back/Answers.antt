@@ -1,6 +1,5 @@
-use Rattle.std.proofs.Common.{◌≡◌, ◌∙◌, ap, take, List, ℕ}
+use Rattle.std.proofs.Common.{◌≡◌, ◌∙◌, ap, take, List, ℕ, All}
 use Rattle.std.proofs.lemmas.List.{take-map}
-use Rattle.std.specs.Prelude.{All}
 use Rattle.otel_model.specs.Streams.{is_delta}
 use Rattle.opentelemetry_sdk.specs.pipeline.Pipelines.{AreFedOnce, AreNumbers, identity_of, stream_identities}
 use Rattle.opentelemetry_sdk.specs.pipeline.Streams.{StreamContents}

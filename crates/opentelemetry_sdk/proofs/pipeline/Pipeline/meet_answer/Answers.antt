@@ -5,7 +5,7 @@ use Rattle.opentelemetry_sdk.specs.pipeline.Pipelines.{AreMet, Piped}
 use Rattle.opentelemetry_sdk.specs.pipeline.Views.{can_keep, usable_answer}
 use Rattle.opentelemetry_sdk.proofs.pipeline.Meets.{longer-refl}
 use Rattle.std.proofs.lemmas.Result.{on_ok_weaker}
-use Rattle.opentelemetry_sdk.proofs.pipeline.ViewLemmas.{fit-demands, unfit-demands, met-same}
+use Rattle.opentelemetry_sdk.proofs.pipeline.ViewLemmas.{fit-demands}
 use Rattle.opentelemetry_sdk.proofs.pipeline.Pipeline.meet_answer.Goals as goal
 
 -- nothing is met
@@ -17,20 +17,6 @@ returns-then-not-can_keep-clause-longer c = longer-refl c.args.self.now
 
 pub returns-in_err-demand-clause-longer : goal.returns-in_err-demand-clause-longer
 returns-in_err-demand-clause-longer c = longer-refl c.args.self.now
-
-pub returns-in_default-clause-met : goal.returns-in_default-clause-met
-returns-in_default-clause-met c = λ before. met-same c.args.now before c.args.self.now c.args.feeds.now.items _ (ap (usable_answer c.args.self.now.answers c.args.scope.now c.args.about.now) c.in_default.is)
-
-pub returns-then-not-can_keep-clause-met : goal.returns-then-not-can_keep-clause-met
-returns-then-not-can_keep-clause-met c =
-    let kind = ap (λ (a : About). can_keep a.kind c.in-Some.stream.aggregation) c.about.view_is in
-    λ before. met-same c.args.now before c.args.self.now c.args.feeds.now.items _
-    (ap (usable_answer c.args.self.now.answers c.args.scope.now c.args.about.now) c.in-Some.is
-    ∙ unfit-demands c.args.self.now.answers c.args.scope.now c.args.about.now c.in-Some.stream (sym kind ∙ (sym c.can_keep.ensures ∙ c.if-not-can_keep.true)))
-
--- what can be used is met
-pub meet-requires : goal.meet-requires
-meet-requires c = record { valid = c.in_ok-demand.ensures.valid c.requires }
 
 pub returns-clause-met : goal.returns-clause-met
 returns-clause-met c =

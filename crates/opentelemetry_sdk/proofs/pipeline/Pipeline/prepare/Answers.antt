@@ -1,19 +1,13 @@
-use Rattle.std.proofs.Common.{◌∙◌, ap, sym, subst, [], List, ℕ, slice_get}
-use Rattle.std.specs.Prelude.{All}
+use Rattle.std.proofs.Common.{◌∙◌, ap, sym, subst, [], List, ℕ, slice_get, All}
 use Rattle.otel_model.specs.Calls.{or_else}
 use Rattle.opentelemetry_sdk.specs.pipeline.Known.{IsKnownIfThere}
-use Rattle.opentelemetry_sdk.specs.pipeline.Pipelines.{IsLawful, Piped, all_without_pending, AreReady}
+use Rattle.opentelemetry_sdk.specs.pipeline.Pipelines.{IsLawful, Piped, all_without_pending}
 use Rattle.opentelemetry_sdk.proofs.pipeline.Known.{known-at}
-use Rattle.std.proofs.lemmas.Result.{on_ok_weaker}
 use Rattle.opentelemetry_sdk.proofs.pipeline.PipelineLemmas.{settled-part, sound-settled}
 use Rattle.opentelemetry_sdk.proofs.pipeline.Pipeline.prepare.Goals as goal
 
 pub invariant_of-self : goal.invariant_of-self
 invariant_of-self c = sound-settled c.self.inside.answers c.self.inside.identities.keys c.self.inside.feeds.items c.self.inside.streams.items c.prepare_each.new.streams.items c.prepare_each.ensures.same c.self.invariant
-
-pub returns-clause-ready : goal.returns-clause-ready
-returns-clause-ready c =
-    on_ok_weaker c.prepare_each.result (subst (AreReady c.args.binds c.args.attributes.now c.prepare_each.new.streams.items) (c.streams_fed.ensures ∙ ap (λ f. or_else (slice_get f c.args.instrument) []) c.deref.ensures.value)) c.prepare_each.ensures.ready
 
 -- the model does not see which streams are ready
 pub returns-clause-same : goal.returns-clause-same

@@ -1,5 +1,4 @@
-use Rattle.std.proofs.Common.{◌∙◌, ap, sym, subst, [], List, ℕ, get_or, set, slice_get}
-use Rattle.std.specs.Prelude.{All}
+use Rattle.std.proofs.Common.{◌∙◌, ap, sym, subst, [], List, ℕ, get_or, set, slice_get, All}
 use Rattle.otel_model.specs.Calls.{or_else}
 use Rattle.opentelemetry_sdk.specs.pipeline.Known.{IsKnownIfThere}
 use Rattle.opentelemetry_sdk.specs.pipeline.Pipelines.{IsLawful, AreNumbers, Piped, all_without_pending}

@@ -1,12 +1,11 @@
-use Rattle.std.proofs.Common.{◌≡◌, ◌∙◌, rules, refl, ap, sym, arith, length, Some, None, List, Bool, false, cond, [], ◌∷◌, ◌++◌}
+use Rattle.std.proofs.Common.{◌≡◌, ◌∙◌, rules, refl, ap, sym, arith, length, Some, None, List, Bool, false, cond, [], ◌∷◌, ◌++◌, is_some}
 use Rattle.std.proofs.lemmas.List.{map-append, length-append}
 use Rattle.std.specs.List.{list_any}
-use Rattle.std.specs.Prelude.{is_some}
 use Rattle.otel_model.specs.Demands.{Identity}
 use Rattle.otel_model.specs.Streams.{is_delta}
 use Rattle.opentelemetry_sdk.specs.pipeline.Pipelines.{identity_of, stream_identities, stream_number}
 use Rattle.opentelemetry_sdk.specs.pipeline.Streams.{StreamContents, new_contents}
-use Rattle.opentelemetry_sdk.proofs.pipeline.Answered.{answered-push}
+use Rattle.otel_model.proofs.Amounts.{each_push}
 use Rattle.opentelemetry_sdk.proofs.pipeline.Builds.{any-position}
 use Rattle.opentelemetry_sdk.proofs.pipeline.Identities.{position-same, test_of}
 use Rattle.opentelemetry_sdk.proofs.pipeline.Meets.{met-known, met-new}
@@ -49,7 +48,7 @@ invariant_of-self-2 c =
     rw streams (
       keys,
       (λ k ns h j n l. let q = c.self.invariant.1 k ns h j n l in omega (arith, length-append {A = StreamContents})),
-      answered-push (λ resets d. resets ≡ is_delta c.self.inside.answers d) ks fresh c.self.invariant.2 refl,
+      each_push (λ (k : StreamContents). k.resets ≡ is_delta c.self.inside.answers k.stream.demand) ks fresh c.self.invariant.2 refl,
       c.self.invariant.3,
     )
 

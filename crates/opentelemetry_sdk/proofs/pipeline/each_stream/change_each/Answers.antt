@@ -1,10 +1,6 @@
-use Rattle.std.proofs.Common.{arith}
 use Rattle.opentelemetry_sdk.specs.pipeline.Streams.{contents_after}
-use Rattle.opentelemetry_sdk.proofs.pipeline.Writes.{changed-more, number-inside}
+use Rattle.opentelemetry_sdk.proofs.pipeline.Writes.{changed-more}
 use Rattle.opentelemetry_sdk.proofs.pipeline.each_stream.change_each.Goals as goal
-
-pub index_mut-requires : goal.index_mut-requires
-index_mut-requires c = omega (arith, number-inside (contents_after c.args.change) c.args.feeds.now c.args.streams.now.items c.loop-k.streams.items c.loop-k.k-index c.requires c.loop-k-test.true c.loop-k.invariant)
 
 pub loop-k-preserved : goal.loop-k-preserved
 loop-k-preserved c = changed-more (contents_after c.args.change) c.args.feeds.now c.args.streams.now.items c.loop-k.streams.items c.loop-k.k-index c.index_mut.result.now c.change-place.new.self c.requires c.loop-k-test.true c.index_mut.ensures.value c.change-place.ensures c.loop-k.invariant

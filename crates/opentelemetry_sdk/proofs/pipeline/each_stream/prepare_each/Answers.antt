@@ -1,5 +1,4 @@
-use Rattle.std.proofs.Common.{rules, ◌≡◌, ◌<◌, ◌∙◌, ap, refl, sym, subst, List, arith, get_or, length, slice_get, Some, option_map}
-use Rattle.std.specs.Prelude.{IsOk}
+use Rattle.std.proofs.Common.{rules, ◌≡◌, ◌<◌, ◌∙◌, ap, refl, sym, subst, List, arith, get_or, length, slice_get, Some, option_map, IsOk}
 use Rattle.std.proofs.lemmas.List.{length-map}
 use Rattle.std.proofs.lemmas.Option.{slice_get-map, slice_get_read}
 use Rattle.std.proofs.lemmas.List.Elements.{All-from_get_or}
@@ -8,9 +7,6 @@ use Rattle.opentelemetry_sdk.specs.pipeline.Pipelines.{IsReadyIfThere, all_witho
 use Rattle.opentelemetry_sdk.specs.pipeline.Streams.{StreamContents, without_pending}
 use Rattle.opentelemetry_sdk.proofs.pipeline.Writes.{ready-more, seen_same}
 use Rattle.opentelemetry_sdk.proofs.pipeline.each_stream.prepare_each.Goals as goal
-
-pub index_mut-requires : goal.index_mut-requires
-index_mut-requires c = omega (arith, c.requires c.loop-k.k-index 0 c.loop-k-test.true, ap length c.loop-k.invariant.same, length-map {A = StreamContents} {B = StreamContents})
 
 pub returns-in_err-prepare-clause-same : goal.returns-in_err-prepare-clause-same
 returns-in_err-prepare-clause-same c =

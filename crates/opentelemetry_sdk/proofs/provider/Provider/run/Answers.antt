@@ -1,5 +1,4 @@
-use Rattle.std.specs.Prelude.{map, IfOk, OnErr}
-use Rattle.std.proofs.Common.{◌≡◌, arith, rules, subst}
+use Rattle.std.proofs.Common.{◌≡◌, arith, rules, subst, map, IfOk, OnErr}
 use Rattle.std.specs.Global.{Vec}
 use Rattle.std.proofs.lemmas.Result.{IfOk-weaker}
 use Rattle.otel_stream.specs.Requests.{wanted_by}

@@ -1,50 +1,19 @@
-use Rattle.std.proofs.Common.{◌≡◌, ◌∙◌, ◌++◌, ◌∷◌, [], rules, refl, ap, sym, subst, List, map, slice_get, None, arith, nat_eq}
+use Rattle.std.proofs.Common.{◌≡◌, ◌∙◌, ◌++◌, ◌∷◌, [], refl, ap, sym, subst, List, map, slice_get, None, arith, nat_eq}
 use Rattle.std.specs.List.{AllByRecursion as EachOf}
 use Rattle.std.specs.Map.{lookup}
 use Rattle.otel_common.specs.declared.attributes.KeyValue.{KeyValue}
 use Rattle.otel_model.specs.Calls as model
 use Rattle.otel_model.specs.Machine.{part_after_call}
 use Rattle.otel_model.specs.Refusals.{bind_refusal}
-use Rattle.otel_model.specs.Steps.{Step}
 use Rattle.otel_model.specs.State.{LiveHandle, State}
 use Rattle.opentelemetry_sdk.specs.pipeline.Handles.{IsNewAt}
 use Rattle.opentelemetry_sdk.specs.pipeline.Pipelines.{part_of}
 use Rattle.opentelemetry_sdk.specs.Cores.{state_in}
-use Rattle.opentelemetry_sdk.specs.declared.provider_core.handles.BoundHandle.{BoundHandle}
-use Rattle.opentelemetry_sdk.specs.Correspondence.{fault_of}
-use Rattle.opentelemetry_sdk.specs.States.{CoreContents, IsBindable, IsFault, IsSound, AreTyped}
-use Rattle.opentelemetry_sdk.proofs.Held.{feeds-synchronous, next-new, next-absent, bind-made}
+use Rattle.opentelemetry_sdk.proofs.Held.{next-new, next-absent, bind-made}
 use Rattle.opentelemetry_sdk.proofs.Sound.{sound-step}
-use Rattle.opentelemetry_sdk.proofs.Stepped.{refused-step, memory-result}
-use Rattle.opentelemetry_sdk.proofs.StepLemmas.{unchanged, lent-parts}
+use Rattle.opentelemetry_sdk.proofs.StepLemmas.{lent-parts}
 use Rattle.opentelemetry_sdk.proofs.provider_core.Core.bind.Goals.{After-add-place}
 use Rattle.opentelemetry_sdk.proofs.provider_core.Core.bind.Goals as goal
-
-pub returns-in-Err-clause-step : goal.returns-in-Err-clause-step
-returns-in-Err-clause-step c =
-    let old : State = state_in c.self.inside in
-    λ own views. subst (λ (k : CoreContents). Step views k.state (model.Call.Bind c.args.instrument c.args.attributes.now) (model.Reply.Refused (fault_of c.in-Err.fault)) k.state) c.self.view_is (refused-step views old old (model.Call.Bind c.args.instrument c.args.attributes.now) c.in-Err.fault (λ _. refl)
-    (subst (λ is. IsFault (bind_refusal c.self.inside.next (slice_get is c.args.instrument)) c.in-Err.fault) c.deref.ensures.value c.in-Err.ensures.fault) refl)
-
--- there is no memory for one more handle
-pub invariant_of-self : goal.invariant_of-self
-invariant_of-self c =
-    let old : State = state_in c.self.inside in
-    subst IsSound (sym (ap (λ (live : List LiveHandle). record old { shared = record old.shared { live = live } }) c.make_room.ensures.links)) c.self.invariant
-
-pub returns-in_err-make_room-clause-step : goal.returns-in_err-make_room-clause-step
-returns-in_err-make_room-clause-step c =
-    let old : State = state_in c.self.inside in
-    rw (← c.self.view_is) (λ own views. memory-result (λ (h : BoundHandle). model.Reply.Handle h.number) views old _ (model.Call.Bind c.args.instrument c.args.attributes.now) c.from_residual.result refl (search rules) (ap (λ is. bind_refusal c.self.inside.next (slice_get is c.args.instrument)) (sym c.deref.ensures.value) ∙ c.in_default.ensures.fits)
-    (ap (λ (live : List LiveHandle). record old { shared = record old.shared { live = live } }) c.make_room.ensures.links))
-
--- the instrument feeds no observable stream
-pub bind_or_none-requires-clause-synchronous : goal.bind_or_none-requires-clause-synchronous
-bind_or_none-requires-clause-synchronous c =
-    let b : IsBindable c.deref.result.now c.args.instrument = c.in_default.ensures.bindable in
-    feeds-synchronous c.args.instrument c.self.inside.instruments.items b.instrument (map part_of c.deref_mut.result.now)
-    (ap (λ is. slice_get is c.args.instrument) (sym c.deref.ensures.value) ∙ b.there) b.synchronous
-    (subst (λ ps. AreTyped c.self.inside.instruments.items (map part_of ps)) (sym c.deref_mut.ensures.value) c.self.invariant.typed)
 
 -- no stream has the next handle
 pub bind_or_none-requires-clause-new : goal.bind_or_none-requires-clause-new
@@ -55,18 +24,6 @@ bind_or_none-requires-clause-new c =
 pub add-place-requires-clause-absent : goal.add-place-requires-clause-absent
 add-place-requires-clause-absent c =
     subst (λ (l : List LiveHandle). lookup (nat_eq c.self.inside.next) l ≡ None) (sym c.make_room.ensures.links) (next-absent c.self.inside.next c.self.inside.handles.entries c.self.invariant.lawful.handles.below)
-
--- there is no memory in a stream, and no reader made the bind
-pub invariant_of-self-in_err-stream_place : goal.invariant_of-self-in_err-stream_place
-invariant_of-self-in_err-stream_place c =
-    let old : State = state_in c.self.inside in
-    subst IsSound (sym (unchanged old c.make_room.new.links.entries c.self.inside.pipelines.len _ c.bind_or_none.new.pipelines _ (omega arith) c.make_room.ensures.links (ap (map part_of) c.deref_mut.ensures.value) c.in_err-stream_place.ensures.err)) c.self.invariant
-
-pub returns-in_err-stream_place-clause-step : goal.returns-in_err-stream_place-clause-step
-returns-in_err-stream_place-clause-step c =
-    let old : State = state_in c.self.inside in
-    rw (← c.self.view_is) (λ own views. memory-result (λ (h : BoundHandle). model.Reply.Handle h.number) views old _ (model.Call.Bind c.args.instrument c.args.attributes.now) c.from_residual-in_err-stream_place.result refl (search rules) (ap (λ is. bind_refusal c.self.inside.next (slice_get is c.args.instrument)) (sym c.deref.ensures.value) ∙ c.in_default.ensures.fits)
-    (unchanged old c.make_room.new.links.entries c.self.inside.pipelines.len _ c.bind_or_none.new.pipelines _ (omega arith) c.make_room.ensures.links (ap (map part_of) c.deref_mut.ensures.value) c.in_err-stream_place.ensures.err))
 
 -- the bind fits, the readers made it, and the core keeps which instrument the handle has
 fits : (c : After-add-place) → bind_refusal c.self.inside.next (slice_get c.self.inside.instruments.items c.args.instrument) ≡ None
@@ -84,9 +41,3 @@ invariant_of-self-2 c =
     let old : State = state_in c.self.inside in
     sound-step [] old _ (model.Call.Bind c.args.instrument c.args.attributes.now) (model.Reply.Handle c.self.inside.next) c.self.invariant
     (bind-made old c.args.instrument c.args.attributes.now _ _ _ (fits w) (added w) refl (lent-parts c.self.inside.pipelines.len c.bind_or_none.new.pipelines _ _ (omega arith) (sent w)) [])
-
-pub returns-clause-step : goal.returns-clause-step
-returns-clause-step c =
-    let w = (goal.at.returns-clause-step c).After-add-place in
-    let old : State = state_in c.self.inside in
-    rw (← c.self.view_is) (λ own. bind-made old c.args.instrument c.args.attributes.now _ _ _ (fits w) (added w) refl (lent-parts c.self.inside.pipelines.len c.bind_or_none.new.pipelines _ _ (omega arith) (sent w)))

@@ -1,6 +1,4 @@
-use Rattle.std.proofs.Common.{ℕ, List, [], ◌∷◌, ◌≡◌, ◌∙◌, rules, refl, ap, sym, subst, map, arith}
-use Rattle.std.specs.Prelude.{All, OnOk, OnErr}
-use Rattle.std.specs.Option.{option_map}
+use Rattle.std.proofs.Common.{ℕ, List, [], ◌∷◌, ◌≡◌, ◌∙◌, refl, ap, sym, subst, map, arith, All, OnOk, OnErr, option_map}
 use Rattle.std.proofs.lemmas.List.Elements.{All-head, All-same, All-tail}
 use Rattle.otel_model.specs.Calls as model
 use Rattle.otel_model.specs.Demands.{is_good}
@@ -13,17 +11,10 @@ use Rattle.opentelemetry_sdk.specs.Correspondence.{reply_from}
 use Rattle.opentelemetry_sdk.specs.States.{AreAsked, IsGoodIn}
 use Rattle.std.proofs.lemmas.Result.{on_ok_weaker, on_err_weaker}
 use Rattle.opentelemetry_sdk.proofs.Sound.{sound-step}
-use Rattle.opentelemetry_sdk.proofs.Stepped.{memory-result}
 use Rattle.opentelemetry_sdk.proofs.StepLemmas.{good-in, lent_back, lent-parts, build-step}
 use Rattle.opentelemetry_sdk.proofs.provider_core.Core.build.Given as given
 use Rattle.opentelemetry_sdk.proofs.provider_core.Core.build.Goals.{After-make}
 use Rattle.opentelemetry_sdk.proofs.provider_core.Core.build.Goals as goal
-
--- there is no memory for what the views answer
-pub returns-in_err-answered-clause-step : goal.returns-in_err-answered-clause-step
-returns-in_err-answered-clause-step g c =
-    let old : State = state_in c.self.inside in
-    rw (← c.self.view_is) (λ own. memory-result model.Reply.Instrument (map g.V.View.answer c.args.views.now) old old (model.Call.Build c.args.meter c.args.about.now c.args.now) c.from_residual-in_err-answered.result refl (search rules) (c.in_ok-scope_of.ensures.known old.shared refl) refl)
 
 pub make-requires-clause-good : goal.make-requires-clause-good
 make-requires-clause-good g c = subst (λ s. IsGoodIn s c.args.about.now) (sym c.good_scope-scope.ensures) (good-in _ c.args.about.now (is_good c.args.about.now) refl)

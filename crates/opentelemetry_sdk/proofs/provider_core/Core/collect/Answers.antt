@@ -1,6 +1,4 @@
-use Rattle.std.proofs.Common.{◌≡◌, ◌<◌, ◌≤◌, ◌∙◌, refl, ap, sym, [], map, set, length, None, Some, option_map, slice_get, subst, arith}
-use Rattle.std.specs.Prelude.{All, OnOk, OnErr}
-use Rattle.std.proofs.lemmas.List.{length-map}
+use Rattle.std.proofs.Common.{◌≡◌, ◌<◌, ◌∙◌, ap, sym, [], map, set, length, None, Some, option_map, slice_get, subst, arith, All, OnOk, OnErr}
 use Rattle.std.proofs.lemmas.Option.{slice_get-map}
 use Rattle.otel_model.specs.Calls as model
 use Rattle.otel_model.specs.Machine.{changed_at, part_after_call}
@@ -10,25 +8,12 @@ use Rattle.opentelemetry_sdk.specs.pipeline.Pipelines.{part_of}
 use Rattle.opentelemetry_sdk.specs.Cores.{state_in}
 use Rattle.opentelemetry_sdk.specs.Correspondence.{observed_of, reply_from}
 use Rattle.opentelemetry_sdk.specs.States.{IsTaken}
-use Rattle.opentelemetry_sdk.proofs.Collects.{get-at, no-reader, shut-reader, collect-step, set-seen, set-unseen}
+use Rattle.opentelemetry_sdk.proofs.Collects.{get-at, collect-step, set-seen, set-unseen}
 use Rattle.std.proofs.lemmas.Result.{on_ok_weaker, on_err_weaker}
 use Rattle.opentelemetry_sdk.proofs.Sound.{sound-step}
-use Rattle.opentelemetry_sdk.proofs.Stepped.{named-step}
 use Rattle.opentelemetry_sdk.proofs.Typed.{typed-observed, observable-observed}
 use Rattle.opentelemetry_sdk.proofs.provider_core.Core.collect.Goals.{After-collect}
 use Rattle.opentelemetry_sdk.proofs.provider_core.Core.collect.Goals as goal
-
-pub returns-then-reader-len-clause-step : goal.returns-then-reader-len-clause-step
-returns-then-reader-len-clause-step c =
-    let old : State = state_in c.self.inside in
-    let none : length old.readers ≤ c.args.reader = rw length-map (omega (arith, c.if-reader-len.true, c.len.ensures, c.self.inside.pipelines.ok.0)) in
-    rw (← c.self.view_is) (λ views. named-step views old old (model.Call.Collect c.args.reader c.args.now (map observed_of c.args.observations.now)) model.Fault.UnknownReader (no-reader old c.args.reader c.args.now (map observed_of c.args.observations.now) none) refl)
-
-pub returns-then-self-clause-step : goal.returns-then-self-clause-step
-returns-then-self-clause-step c =
-    let old : State = state_in c.self.inside in
-    let inside : c.args.reader < length old.readers = rw length-map (omega (arith, c.if-reader-len.false, c.len.ensures, c.self.inside.pipelines.ok.0)) in
-    rw (← c.self.view_is) (λ views. named-step views old old (model.Call.Collect c.args.reader c.args.now (map observed_of c.args.observations.now)) model.Fault.ReaderShutDown (shut-reader old c.args.reader c.args.now (map observed_of c.args.observations.now) inside c.if-self.true) refl)
 
 -- the observations are of instruments that take them, so they are of the number type of what these feed
 pub collect-requires-clause-typed : goal.collect-requires-clause-typed

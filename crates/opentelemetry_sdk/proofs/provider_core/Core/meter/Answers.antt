@@ -1,20 +1,13 @@
-use Rattle.std.proofs.Common.{◌≡◌, ◌∙◌, rules, refl, ap, sym, true≢false, cond, List, [], ◌∷◌, ◌++◌, Some}
+use Rattle.std.proofs.Common.{◌≡◌, ◌∙◌, rules, ap, sym, true≢false, cond, List, [], ◌∷◌, ◌++◌}
 use Rattle.std.specs.List.{list_any, position_or_len}
 use Rattle.otel_common.specs.Scopes.{scope_eq}
 use Rattle.otel_common.specs.declared.scopes.InstrumentationScope.{InstrumentationScope}
-use Rattle.otel_model.specs.Calls as model
 use Rattle.otel_model.specs.Machine.{with_meter}
 use Rattle.otel_model.specs.State.{State}
 use Rattle.opentelemetry_sdk.specs.Cores.{state_in}
-use Rattle.opentelemetry_sdk.proofs.Sound.{sound-step}
-use Rattle.opentelemetry_sdk.proofs.Stepped.{memory-result}
-use Rattle.opentelemetry_sdk.proofs.StepLemmas.{meter-made, meter-known, meter-none, meter-unknown, has_scope-flip}
+use Rattle.opentelemetry_sdk.proofs.StepLemmas.{meter-made, meter-known, meter-unknown, has_scope-flip}
 use Rattle.opentelemetry_sdk.proofs.provider_core.Core.meter.Goals.{In_ok-number, After-from_residual-in_err-number}
 use Rattle.opentelemetry_sdk.proofs.provider_core.Core.meter.Goals as goal
-
--- there is no meter after a shutdown
-pub returns-then-self-clause-step : goal.returns-then-self-clause-step
-returns-then-self-clause-step c = rw (← c.self.view_is) (meter-none (state_in c.self.inside) c.args.scope.now c.if-self.true)
 
 -- a known one is found
 pub returns-in-Some-clause-step : goal.returns-in-Some-clause-step
@@ -24,22 +17,12 @@ returns-in-Some-clause-step c = rw (← c.self.view_is) (meter-known (state_in c
 pub returns-in_err-copied-clause-known : goal.returns-in_err-copied-clause-known
 returns-in_err-copied-clause-known c = rw (← c.self.view_is) (λ t. absurd (true≢false (sym t ∙ meter-unknown c.self.inside.meters.keys c.args.scope.now (sym c.get_index_of.ensures.index ∙ c.in_default.is))))
 
-pub returns-in_err-copied-clause-step : goal.returns-in_err-copied-clause-step
-returns-in_err-copied-clause-step c =
-    let old : State = state_in c.self.inside in
-    rw (← c.self.view_is) (λ views. memory-result (λ n. model.Reply.Meter n) views old old (model.Call.Meter c.args.scope.now) c.from_residual.result refl (search rules) refl refl)
-
 pub returns-in_err-number-clause-known : goal.returns-in_err-number-clause-known
 returns-in_err-number-clause-known c = rw (← c.self.view_is) (λ t. absurd (true≢false (sym t ∙ meter-unknown c.self.inside.meters.keys c.args.scope.now (sym c.get_index_of.ensures.index ∙ c.in_default.is))))
 
 -- there is no memory for a new one
 same : (c : After-from_residual-in_err-number) → c.insert_full.new.self.keys ≡ c.self.inside.meters.keys
 same c = search rules
-
-pub returns-in_err-number-clause-step : goal.returns-in_err-number-clause-step
-returns-in_err-number-clause-step c =
-    let old : State = state_in c.self.inside in
-    rw (← c.self.view_is) (λ views. memory-result (λ n. model.Reply.Meter n) views old _ (model.Call.Meter c.args.scope.now) c.from_residual-in_err-number.result refl (search rules) refl (ap (λ ms. record old { shared = record old.shared { meters = ms } }) (same c)))
 
 -- a new scope is added at the end
 scope-copied : (c : In_ok-number) → c.in_ok-copied.copied ≡ c.args.scope.now
@@ -52,13 +35,6 @@ added : (c : In_ok-number) → c.insert_full.new.self.keys ≡ with_meter c.args
 added c =
     let keys : List InstrumentationScope = c.self.inside.meters.keys in
     c.in_ok-number.ensures.keys ∙ (ap (λ s. cond (list_any (scope_eq s) keys) keys (keys ++ s ∷ [])) (scope-copied c) ∙ ap (λ b. cond b keys (keys ++ c.args.scope.now ∷ [])) (sym (has_scope-flip c.args.scope.now keys)))
-
-pub invariant_of-self-2 : goal.invariant_of-self-2
-invariant_of-self-2 c =
-    let w = (goal.at.invariant_of-self-2 c).In_ok-number in
-    let old : State = state_in c.self.inside in
-    sound-step [] old _ (model.Call.Meter c.args.scope.now) (model.Reply.Meter (Some c.in_ok-number.number)) c.self.invariant
-    (meter-made old _ c.args.scope.now c.in_ok-number.number c.if-self.false (first w) (added w) [])
 
 pub returns-clause-step : goal.returns-clause-step
 returns-clause-step c =

@@ -1,5 +1,4 @@
-use Rattle.std.proofs.Common.{◌≡◌, ◌≤◌, length, map, take, vec_len}
-use Rattle.std.specs.Prelude.{vec_capacity}
+use Rattle.std.proofs.Common.{◌≡◌, ◌≤◌, length, map, take, vec_len, vec_capacity}
 use Rattle.otel_stream.specs.Requests.{wanted_by}
 use Rattle.opentelemetry_sdk.proofs.KnownRuns.{KnownRun}
 use Rattle.opentelemetry_sdk.proofs.provider_core.Core.run.Given as goal

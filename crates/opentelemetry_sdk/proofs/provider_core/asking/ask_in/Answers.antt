@@ -1,6 +1,4 @@
-use Rattle.std.proofs.Common.{◌∙◌, ap, arith, map, rules}
-use Rattle.std.proofs.lemmas.List.{take_all}
-use Rattle.std.specs.Option.{option_map}
+use Rattle.std.proofs.Common.{◌∙◌, ap, arith, map, rules, take_all, option_map}
 use Rattle.opentelemetry_sdk.proofs.Asked.{asked-each}
 use Rattle.opentelemetry_sdk.proofs.provider_core.asking.ask_in.Goals as goal
 

@@ -1,6 +1,5 @@
-use Rattle.std.proofs.Common.{rules, ◌≡◌, ◌∙◌, ap, sym, true, refl, arith, get_or}
+use Rattle.std.proofs.Common.{rules, ◌≡◌, ◌∙◌, ap, sym, true, refl, arith, get_or, IsOk}
 use Rattle.std.specs.List.{list_all}
-use Rattle.std.specs.Prelude.{IsOk}
 use Rattle.std.proofs.lemmas.List.Folds.{list_all-map}
 use Rattle.std.proofs.lemmas.List.Sums.{AllPass-from_list_all}
 use Rattle.std.proofs.lemmas.List.Elements.{AllWithin-more_set}
@@ -22,14 +21,11 @@ returns-in_err-prepare-clause-known c = λ records known.
     sym (list_all-map (is_known_at n l) part_of c.loop-i.pipelines) ∙ (ap (list_all (is_known_at n l)) c.loop-i.invariant.same ∙ known) in
     let one : is_known_at n l (part_of (get_or c.loop-i.pipelines c.loop-i.i c.index-pipelines-i.result)) ≡ true =
     AllPass-from_list_all (λ (p : Piped). is_known_at n l (part_of p)) c.loop-i.pipelines each c.loop-i.i c.index-pipelines-i.result (omega arith) in
-    let ok : IsOk c.prepare.result = c.prepare.ensures.known records one in
+    let ok : IsOk c.prepare.result = c.prepare.ensures.known records (rw c.hashed_for-given.ensures one) in
     search rules)
 
 pub loop-i-preserved : goal.loop-i-preserved
 loop-i-preserved c = record {
   same = seen_same part_of c.loop-i.pipelines c.loop-i.i c.index-pipelines-i.result (get_or c.loop-i.pipelines c.loop-i.i c.index-pipelines-i.result) c.prepare.new.self refl c.prepare.ensures.same ∙ c.loop-i.invariant.same;
-  ready = AllWithin-more_set c.loop-i.pipelines c.loop-i.i c.prepare.new.self (omega arith) (IsReadyFor c.args.binds c.args.instrument c.args.attributes.now) c.loop-i.invariant.ready c.in_ok-prepare.ensures.ready;
+  ready = AllWithin-more_set c.loop-i.pipelines c.loop-i.i c.prepare.new.self (omega arith) (IsReadyFor c.args.binds c.args.instrument c.args.attributes.now) c.loop-i.invariant.ready (rw c.hashed_for-given.ensures at c.in_ok-prepare.ensures.ready);
 }
-
-pub returns-clause-ready : goal.returns-clause-ready
-returns-clause-ready c = λ k d h. c.loop-i.invariant.ready k d (omega arith) (omega arith)

@@ -1,4 +1,4 @@
-use Rattle.std.proofs.Common.{◌≡◌, List, [], ◌∷◌, map, length, true, ◌∙◌, refl, sym, ap, eqb-true}
+use Rattle.std.proofs.Common.{◌≡◌, List, [], ◌∷◌, map, length, ◌∙◌, refl, sym, ap, eqb-true}
 use Rattle.otel_common.specs.declared.attributes.KeyValue.{KeyValue}
 use Rattle.otel_aggregate.specs.Any.{is_signed_value}
 use Rattle.otel_model.specs.Calls as model

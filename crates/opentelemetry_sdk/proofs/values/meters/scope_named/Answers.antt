@@ -1,12 +1,10 @@
-use Rattle.std.proofs.Common.{◌≡◌, ◌∙◌, ℕ, List, length, Result, Ok, Err, ap}
-use Rattle.std.specs.Prelude.{IfOk}
+use Rattle.std.proofs.Common.{◌≡◌, ◌∙◌, ℕ, List, length, Result, Ok, Err, ap, IfOk, string_bytes}
 use Rattle.std.proofs.lemmas.List.{nil_from_length}
 use Rattle.std.proofs.lemmas.List.Sorted.{length_permutation}
 use Rattle.otel_common.specs.Canonical.{IsStablySorted}
 use Rattle.otel_common.specs.declared.faults.Fault.{Fault}
 use Rattle.otel_common.specs.declared.scopes.InstrumentationScope.{InstrumentationScope}
 use Rattle.opentelemetry_sdk.specs.Typed.{named_scope}
-use Rattle.std.specs.String.{string_bytes}
 use Rattle.opentelemetry_sdk.proofs.values.meters.scope_named.Goals as goal
 
 -- a scope that is built of a name alone has no attributes

@@ -4,14 +4,8 @@ use Rattle.opentelemetry_sdk.specs.Batches.{IsMade}
 use Rattle.opentelemetry_sdk.specs.Pending.{call_in}
 use Rattle.opentelemetry_sdk.specs.pipeline.Pipelines.{part_of}
 use Rattle.opentelemetry_sdk.specs.declared.metrics.shared.pending.PendingRecord.{PendingRecord}
-use Rattle.opentelemetry_sdk.proofs.Holding.{made-none, made-more, next-taken}
+use Rattle.opentelemetry_sdk.proofs.Holding.{made-more, next-taken}
 use Rattle.opentelemetry_sdk.proofs.metrics.shared.batch.record_each.Goals as goal
-
-pub loop-number-init : goal.loop-number-init
-loop-number-init c = record {
-  within = omega arith;
-  made = λ st b. made-none c.args.first c.args.waiting.now.series c.args.holdings.now st (map part_of c.args.pipelines.now) c.args.instruments.now.items b;
-}
 
 pub record_one-requires-clause-batch : goal.record_one-requires-clause-batch
 record_one-requires-clause-batch c = let made = c.loop-number.invariant.made c.requires.batch.0 c.requires.batch.1 in (made.new, made.batch)

@@ -1,4 +1,4 @@
-use Rattle.std.proofs.Common.{◌≡◌, ◌∙◌, ◌<◌, ◌∷◌, [], ℕ, List, length, take, drop, sum_by, sym, ap, arith, length-drop}
+use Rattle.std.proofs.Common.{◌∙◌, ◌<◌, ◌∷◌, [], ℕ, List, length, take, sum_by, sym, ap, arith}
 use Rattle.std.proofs.lemmas.List.Sums.{sum_by-append}
 use Rattle.opentelemetry_sdk.specs.Pending.{bits_in}
 use Rattle.opentelemetry_sdk.specs.Waiting.{Waits}
@@ -6,9 +6,6 @@ use Rattle.opentelemetry_sdk.specs.Workers.{pending_of}
 use Rattle.opentelemetry_sdk.specs.declared.metrics.shared.pending.PendingRecord.{PendingRecord}
 use Rattle.opentelemetry_sdk.proofs.Submitting.{taken-more}
 use Rattle.opentelemetry_sdk.proofs.metrics.shared.booked.enter_each.Goals as goal
-
-pub pass_first-value-requires : goal.pass_first-value-requires
-pass_first-value-requires g c = omega (arith, ap length c.loop.invariant.pending, length-drop c.loop.counter (pending_of c.args.worker.now), c.loop-test.true, c.requires.there)
 
 pub loop-preserved : goal.loop-preserved
 loop-preserved g c =

@@ -1,13 +1,7 @@
-use Rattle.std.proofs.Common.{◌∙◌, [], ◌∷◌, inr, refl}
+use Rattle.std.proofs.Common.{◌∙◌, [], ◌∷◌, inr}
 use Rattle.opentelemetry_sdk.specs.Waiting.{lent_record}
 use Rattle.opentelemetry_sdk.proofs.Full.{full-only}
 use Rattle.opentelemetry_sdk.proofs.metrics.shared.booked.Booked.make_first.Goals as goal
-
--- the record at the place of the first one that is left was refused
-pub returns-in-Err-clause-fault : goal.returns-in-Err-clause-fault
-returns-in-Err-clause-fault g c =
-    let refused = c.in-Err.ensures.refused in
-    (rw (refused.1, c.args.self.now.counted, c.in-Some.ensures.first) (inr (c.in_ok-check_book.ensures.room, refused.0)), refl, refused.1, refl, refl)
 
 -- not because the book is full
 pub returns-in-Err-clause-full : goal.returns-in-Err-clause-full

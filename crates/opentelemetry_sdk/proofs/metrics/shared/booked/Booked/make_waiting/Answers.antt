@@ -1,5 +1,4 @@
-use Rattle.std.proofs.Common.{◌≡◌, length, take, arith}
-use Rattle.std.proofs.lemmas.List.{length-take-le}
+use Rattle.std.proofs.Common.{◌≡◌, length, take, arith, length-take-le}
 use Rattle.opentelemetry_sdk.specs.Workers.{pending_of}
 use Rattle.opentelemetry_sdk.proofs.AcceptedSteps.{done-adds}
 use Rattle.opentelemetry_sdk.proofs.metrics.shared.booked.Booked.make_waiting.Goals as goal

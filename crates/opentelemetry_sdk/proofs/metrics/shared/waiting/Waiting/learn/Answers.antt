@@ -1,4 +1,4 @@
-use Rattle.std.proofs.Common.{◌≡◌, ◌∙◌, ◌+◌, ◌++◌, ◌∷◌, [], List, None, map, drop, length, position, ap, sym, subst, inl, inr, ⊎_elim, arith}
+use Rattle.std.proofs.Common.{◌≡◌, ◌∙◌, ◌++◌, ◌∷◌, [], List, None, map, drop, length, position, ap, sym, subst, inl, inr, ⊎_elim, arith}
 use Rattle.std.proofs.lemmas.List.{drop-map, get_or_push, length-map, length_push, map-append}
 use Rattle.std.specs.List.{AllByRecursion}
 use Rattle.indexmap.proofs.CallerLemmas.{insert_entry-new}
@@ -8,7 +8,8 @@ use Rattle.opentelemetry_sdk.specs.Series.{IsListOf, series, series_eq}
 use Rattle.opentelemetry_sdk.specs.Waiting.{Waits, record_in}
 use Rattle.opentelemetry_sdk.specs.declared.calls.record_attributes.SharedAttributes.{SharedAttributes}
 use Rattle.opentelemetry_sdk.specs.declared.metrics.shared.series.Series.{Series}
-use Rattle.opentelemetry_sdk.proofs.SeriesLemmas.{absent, all-push}
+use Rattle.otel_model.proofs.Amounts.{each_push}
+use Rattle.opentelemetry_sdk.proofs.SeriesLemmas.{absent}
 use Rattle.opentelemetry_sdk.proofs.WaitingLemmas.{grown, has-grown}
 use Rattle.opentelemetry_sdk.proofs.metrics.shared.waiting.Waiting.learn.Goals.{Joined-insert-2}
 use Rattle.opentelemetry_sdk.proofs.metrics.shared.waiting.Waiting.learn.Goals as goal
@@ -34,7 +35,7 @@ pub invariant_of-self : goal.invariant_of-self
 invariant_of-self c = (
   c.self.invariant.0,
   rw (added c, length_push (keys c.self.inside.series) (new c)) (has-grown (length (keys c.self.inside.series)) c.self.inside.records.items c.self.invariant.1),
-  subst (AllByRecursion IsListOf) (sym (pushed c)) (all-push IsListOf c.self.inside.series.entries (new c, c.in_ok-attributes.shared) c.self.invariant.2 c.in_ok-attributes.ensures.list.1),
+  subst (AllByRecursion IsListOf) (sym (pushed c)) (each_push IsListOf c.self.inside.series.entries (new c, c.in_ok-attributes.shared) c.self.invariant.2 c.in_ok-attributes.ensures.list.1),
 )
 
 pub invariant_of-self-2 : goal.invariant_of-self-2
