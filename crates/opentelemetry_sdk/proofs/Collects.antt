@@ -37,7 +37,7 @@ abbrev fault_by : Bool → Bool → Option model.Fault → Option model.Fault
 fault_by known shut bad = cond known (cond shut (Some model.Fault.ReaderShutDown) bad) (Some model.Fault.UnknownReader)
 
 module _ (old : State) (r now : ℕ) (os : List model.Observed) where
-  -- it was not, so what was observed decides
+  -- where the reader is there and the provider was not shut down, what was observed decides
   by-observations : r < length old.readers → old.shared.shut ≡ false → refusal old.shared (length old.readers) (model.Call.Collect r now os) ≡ observations_refusal old.shared.instruments os
   by-observations h opened = λ i. fault_by (lt-ltb r (length old.readers) h i) (opened i) (observations_refusal old.shared.instruments os)
 

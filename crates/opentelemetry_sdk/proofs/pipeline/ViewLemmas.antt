@@ -103,6 +103,6 @@ module _ (answers : ReaderAnswers) (scope : InstrumentationScope) (about : About
 pub good-bounds : (o : Option InstrumentationScope) (scope : InstrumentationScope) (about : About) → o ≡ Some scope → IsGoodIn o about → model.are_good_bounds about.kind about.bounds ≡ true
 good-bounds o scope about e good = (and_parts (is_none (optional_unit_fault about.unit)) (model.are_good_bounds about.kind about.bounds) (and_parts (is_good_name about.name) _ (subst (λ s. IsGoodIn s about) e good)).1).1
 
--- one that can is
+-- an aggregation that can be used is demanded
 pub fit-demands : (answers : ReaderAnswers) (scope : InstrumentationScope) (about : About) (s : StreamSpec) → can_keep about.kind s.aggregation ≡ true → usable_answer answers scope about (Some s) ≡ demand_of answers scope about s ∷ []
 fit-demands answers scope about s e = ap (λ b. cond b (demand_of answers scope about s ∷ []) []) (compatible-is answers scope about s ∙ e)

@@ -84,8 +84,7 @@ pub(crate) fn settings_of(demand: &Demand) -> Result<AnySettings, Fault>
             if matches!(
                 kind,
                 InstrumentKind::ObservableCounter | InstrumentKind::ObservableUpDownCounter
-            ) =>
-        {
+            ) => {
             Ok(AnySettings::PrecomputedSum {
                 is_monotonic: is_monotonic(kind),
             })

@@ -18,6 +18,7 @@ returns-then-not-can_keep-clause-longer c = longer-refl c.args.self.now
 pub returns-in_err-demand-clause-longer : goal.returns-in_err-demand-clause-longer
 returns-in_err-demand-clause-longer c = longer-refl c.args.self.now
 
+-- what can be used is met
 pub returns-clause-met : goal.returns-clause-met
 returns-clause-met c =
     let same : c.in_ok-demand.demand ≡ demand_of c.args.self.now.answers c.args.scope.now c.args.about.now c.in-Some.stream =
