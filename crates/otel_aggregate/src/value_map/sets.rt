@@ -27,7 +27,7 @@ pub fn is_overflow(list: &[KeyValue]) -> bool
     ensures { result ≡ set_eq list.now over_set }
 {
     match list {
-        [one] => one.key.as_str() == OVERFLOW && one.value == Value::Bool(true),
+        [one] => one.key.as_str() == OVERFLOW && matches!(one.value, Value::Bool(true)),
         _ => false,
     }
 }

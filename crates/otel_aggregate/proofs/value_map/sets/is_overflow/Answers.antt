@@ -18,12 +18,13 @@ both false v = refl
 over-is : (l : List KeyValue) (x : KeyValue) (key : List ℕ) (k v : Bool) → l ≡ x ∷ [] → k ≡ bytes_eq x.key key → v ≡ value_eq x.value (value.Bool true) → (k && v) ≡ set_eq l (record { key = key; value = value.Bool true } ∷ [])
 over-is l x key k v is keys values = both k v ∙ (λ i. (keys i && values i) && true) ∙ ap (λ m. set_eq m (record { key = key; value = value.Bool true } ∷ [])) (sym is)
 
-pub returns-then-eq : goal.returns-then-eq
-returns-then-eq c =
+pub returns-in-Bool-true : goal.returns-in-Bool-true
+returns-in-Bool-true c =
     let l = c.args.list.now in
     let x = c.one-item.result in
-    ap (λ b. b && c.eq-then-eq.result) (sym c.if-eq.true)
-    ∙ over-is l x _ c.eq.result c.eq-then-eq.result (single l x c.in-len1.len_at_least c.in-len1.len_below c.one-item.is) (c.eq.ensures ∙ ap (λ k. bytes_eq k _) c.as_str.ensures) c.eq-then-eq.ensures
+    let is : x.value ≡ value.Bool true = c.in-Bool-true.is ∙ ap value.Bool (sym c.in-Bool-true.field-0-is ∙ c.in-Bool-true.field-0-test) in
+    sym (ap (λ b. b && true) c.if-eq.true)
+    ∙ over-is l x _ c.eq.result true (single l x c.in-len1.len_at_least c.in-len1.len_below c.one-item.is) (c.eq.ensures ∙ ap (λ k. bytes_eq k _) c.as_str.ensures) (sym (ap (λ w. value_eq w (value.Bool true)) is))
 
 pub returns-else-eq : goal.returns-else-eq
 returns-else-eq c =
