@@ -20,7 +20,8 @@ pub(crate) fn same_lists(attributes: &[KeyValue], others: &[KeyValue]) -> bool
         return false;
     }
     for at in 0..attributes.len() {
-        if attributes[at] != others[at] {
+        let is_same = attributes[at] == others[at];
+        if !is_same {
             return false;
         }
     }
@@ -37,7 +38,8 @@ pub(crate) fn same_referenced(references: &[&KeyValue], attributes: &[KeyValue])
         return false;
     }
     for at in 0..references.len() {
-        if *references[at] != attributes[at] {
+        let is_same = *references[at] == attributes[at];
+        if !is_same {
             return false;
         }
     }
