@@ -6,6 +6,9 @@
 # with all that they call, in the program as `rt run` builds it. That is done for two numbers of calls, and the
 # difference of the instructions is divided by that of the calls. The case `threads` is timed, so it wants a machine
 # with nothing else to do. Needs rt and valgrind.
+#
+# With ENTERED=1 it prints instead how many functions of the library a call enters, by a build of Rattle's own compiler
+# that keeps each. Laws, which do nothing, are left out, and a generic function counts once.
 set -eu
 cd "$(dirname "$0")"
 wanted="$*"
@@ -13,7 +16,9 @@ counts=$(mktemp)
 scripts=$(mktemp)
 trap 'rm -f "$counts" "$scripts"' EXIT
 command -v valgrind >/dev/null || { echo "valgrind is not there" >&2; exit 1; }
-rt run -- 0 <stdin >/dev/null 2>&1 || { echo "rt run failed" >&2; exit 1; }
+build=
+[ -z "${ENTERED:-}" ] || build="--backend rattle --opt-level 0"
+rt run $build -- 0 <stdin >/dev/null 2>&1 || { echo "rt run failed" >&2; exit 1; }
 
 # Attributes with these numbers, in this order.
 attributes() {
@@ -250,6 +255,12 @@ instructions() {
     valgrind --tool=callgrind --callgrind-out-file="$counts" --collect-atstart=no $toggles \
         out/otel_bench "$1" <"$scripts" >/dev/null 2>&1
     set +f
+    if [ -n "${ENTERED:-}" ]; then
+        callgrind_annotate --threshold=100 "$counts" |
+            grep -oE '\?\?\?:(opentelemetry_sdk|otel_(aggregate|common|data|stream))::[^ ]*' |
+            sed 's/::<.*//' | grep -v '::law_of_\|_laws' | sort -u | wc -l
+        return 0
+    fi
     sed -n 's/^\(summary\|totals\): *\([0-9][0-9]*\).*/\2/p' "$counts" | head -n 1
 }
 
@@ -265,6 +276,10 @@ is_wanted() {
 row() {
     is_wanted "$1" || return 0
     case_named "$1" >"$scripts"
+    if [ -n "${ENTERED:-}" ]; then
+        printf '%-24s %12d\n' "$1" "$(instructions "$3")"
+        return 0
+    fi
     fewer=$(instructions "$2")
     more=$(instructions "$3")
     awk -v name="$1" -v work=$((more - fewer)) -v parts=$((($3 - $2) * $4)) \
