@@ -107,6 +107,15 @@ bound() {
     fi
 }
 
+# Binds of handles for a set that has an entry.
+binds() {
+    instrument u64_counter "$one"
+    echo "record 0 u:1 $rising"
+    next
+    last
+    echo "bind 0 $rising"
+}
+
 # Ends of handles, the oldest first, of this many and one that is bound before each.
 ends() {
     instrument u64_counter "$one"
@@ -207,6 +216,7 @@ case_named() {
         known4_two_kept) known $counter "$rising" "$rising" "$one" "view * keys=attribute00,attribute01" ;;
         bound4) bound "$one" ;;
         bound4_two_readers) bound "$one" "$one" ;;
+        bind4) binds ;;
         histogram4) known u64_histogram "$rising" "$rising" "$one" ;;
         gauge4) known u64_gauge "$rising" "$rising" "$one" ;;
         new4)
@@ -324,7 +334,7 @@ for name in known0 known1 known4 known10 known4_first_order known4_other_order k
     row $name 1000 11000 1
     row typed_$name 1000 11000 1
 done
-for name in histogram4 gauge4; do
+for name in bind4 histogram4 gauge4; do
     row $name 1000 11000 1
 done
 for name in new4 typed_new4; do
