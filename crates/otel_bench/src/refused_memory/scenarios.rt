@@ -54,7 +54,6 @@ maybe provider line | build 0 u64_counter _more 180
 maybe provider line | build 0 u64_counter LIMITED 180
 maybe provider line | build 0 u64_counter twice 180 description=d
 maybe provider line | build 0 i64_up_down_counter allowed 180 unit=ms
-maybe provider line | record 0 u:8 z=i:9
 maybe provider line | record 1 i:8 d=i:4,b=s:new,a=i:9
 maybe provider line | record 2 u:8 z=i:9,y=s:x
 maybe provider line | record 3 u:8 z=i:9
@@ -87,7 +86,6 @@ maybe provider typed | build 0 u64_observable_counter more 180
 maybe provider typed | build 0 i64_observable_up_down_counter more 180
 maybe provider typed | build 0 u64_observable_gauge more 180
 maybe provider typed | build 0 i64_observable_gauge more 180
-maybe provider typed | record 0 u:8 z=i:9
 maybe provider typed | record 1 i:-8 d=i:4,b=s:new,a=i:9
 maybe provider typed | record 2 u:8 z=i:9
 maybe provider typed | record 4 i:-8 z=i:9
@@ -199,6 +197,8 @@ sure provider line | record 2 u:8 a=i:1
 sure provider line | record 3 u:8 a=i:1
 sure provider line | record 4 i:8 a=i:1
 sure provider line | record 3 u:8 q=i:1,p=i:1,o=i:1,n=i:1,m=i:1,l=i:1,k=i:1,j=i:1,i=i:1,h=i:1,g=i:1,f=i:1,e=i:1,d=i:1,c=i:1,b=i:1,a=i:1
+sure provider line | record 0 u:8 z=i:9
+sure provider line | record 0 u:8 q=i:1,p=i:1,o=i:1,n=i:1,m=i:1,l=i:1,k=i:1,j=i:1,i=i:1,h=i:1,g=i:1,f=i:1,e=i:1,d=i:1,c=i:1,b=i:1,a=i:1
 sure provider line | recordbound 0 u:8
 sure provider line | recordbound 1 u:8
 sure provider line | recordbound 2 u:8
@@ -218,6 +218,7 @@ sure provider line | unbind 9
 sure provider line | collect 9 200
 sure provider scope | meter app
 sure provider typed | record 0 u:8 -
+sure provider typed | record 0 u:8 z=i:9
 sure provider typed | record 0 u:8 a=i:1
 sure provider typed | record 1 i:-8 b=i:1,c=i:7,a=s:x
 sure provider typed | record 2 u:8 -
