@@ -261,8 +261,8 @@ impl<A: Aggregator> ValueMap<A> {
     /// (Metrics SDK, "View").
     ///
     /// It looks up what is kept without copying it, as given, by references that it finds once. For more than 16 they
-    /// take memory; if it is refused, the canonical form of what is kept is looked for without being made, and past the limit the
-    /// overflow entry is used.
+    /// take memory; if it is refused, the canonical form of what is kept is looked for without being made, and past
+    /// the limit the overflow entry is used.
     #[inline(never)]
     pub(crate) fn prepare_allowed(
         &mut self,
