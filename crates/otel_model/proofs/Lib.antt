@@ -25,4 +25,3 @@ pub mod Totals
 pub mod Meters
 pub mod Given
 pub mod batches
-pub mod Temporary

@@ -23,4 +23,3 @@ pub mod Showing
 pub mod Given
 pub mod Places
 pub mod Batches
-pub mod Temporary

@@ -2,7 +2,8 @@
 -- the writes only their laws are known.
 use Rattle.std.proofs.Common.{◌≡◌, ⊎_elim, ℕ, nat_eq, Bool, true, false, List, [], ◌∷◌, ◌++◌, map, fold, cond, ◌||◌, refl, sym, ap, ◌∙◌, subst}
 use Rattle.std.specs.Prelude.{◌==◌, filter}
-use Rattle.std.proofs.lemmas.Bool.{eqb-true, eq-eqb, true≢false, false≢true, false_from_ne_true, or_cases, or_parts}
+use Rattle.std.specs.List.{AllByRecursion as EachOf}
+use Rattle.std.proofs.lemmas.Bool.{eqb-true, eq-eqb, true≢false, false≢true, false_from_ne_true, or_cases, or_left, or_right, or_parts}
 use Rattle.otel_model_stream.specs.Totals.{has_number}
 use Rattle.otel_model.specs.Batches.{firsts, occurs, lasts_of, values_of, values_each}
 
@@ -88,6 +89,41 @@ module _ {V : Type 0} where
   groups_without r rs (n ∷ ns) e =
       let p = or_parts (nat_eq n r.0) (has_number r.0 ns) e in
       λ i. (n, map (λ (r : ℕ × V). r.1) (cond (other_way n r.0 p.0 i) (r ∷ filter (λ r. r.0 == n) rs) (filter (λ r. r.0 == n) rs))) ∷ groups_without r rs ns p.1 i
+
+  -- ======== what holds of groups holds of records ========
+  -- what holds of a series, and of a value of it
+  module _ (P : ℕ → Type 0) (Q : ℕ → V → Type 0) where
+    abbrev Holds : ℕ → List V → Type 0
+    Holds n vs = EachOf (Q n) vs × P n
+
+    of_group : (rs : List (ℕ × V)) (n : ℕ) (ns : List ℕ) → has_number n ns ≡ true → EachOf (λ (g : ℕ × List V). Holds g.0 g.1) (groups rs ns) → Holds n (values_of n rs)
+    of_group rs n [] e all = absurd (false≢true e)
+    of_group rs n (m ∷ ns) e all =
+        ⊎_elim (λ here. subst (λ k. Holds k (values_of k rs)) (eqb-true m n here) all.0) (λ later. of_group rs n ns later all.1) (or_cases (nat_eq m n) (has_number n ns) e)
+
+    of_records : (rs : List (ℕ × V)) → ((n : ℕ) → occurs n rs ≡ true → Holds n (values_of n rs)) → EachOf (λ (r : ℕ × V). Q r.0 r.1 × P r.0) rs
+    of_records [] all = tt
+    of_records (r ∷ rs) all = ((first.0.0, first.1), of_records rs later)
+      where
+        -- the values of a series, by whether the first record is of it
+        values_by : ℕ → Bool → List V
+        values_by n b = map (λ (r : ℕ × V). r.1) (cond b (r ∷ filter (λ r. r.0 == n) rs) (filter (λ r. r.0 == n) rs))
+
+        own : nat_eq r.0 r.0 ≡ true
+        own = eq-eqb r.0 r.0 refl
+
+        first : Holds r.0 (values_by r.0 true)
+        first = subst (λ b. Holds r.0 (values_by r.0 b)) own (all r.0 (or_left (nat_eq r.0 r.0) (occurs r.0 rs) own))
+
+        fewer : (n : ℕ) (b : Bool) → Holds n (values_by n b) → Holds n (values_of n rs)
+        fewer n true h = (h.0.1, h.1)
+        fewer n false h = h
+
+        later : (n : ℕ) → occurs n rs ≡ true → Holds n (values_of n rs)
+        later n e = fewer n (nat_eq r.0 n) (all n (or_right (nat_eq r.0 n) (occurs n rs) e))
+
+    pub each_record : (rs : List (ℕ × V)) → EachOf (λ (g : ℕ × List V). EachOf (Q g.0) g.1 × P g.0) (values_each rs) → EachOf (λ (r : ℕ × V). Q r.0 r.1 × P r.0) rs
+    each_record rs all = of_records rs (λ n e. of_group rs n (lasts_of rs) (lasts-occurs n rs ∙ e) all)
 
 -- ======== writes in another order ========
 -- `blur s x` is x without what the next write of the series s does away with. Two writes, one of which is of s, can be
@@ -199,6 +235,16 @@ module _ {X V : Type 0} (place : ℕ → X → X) (write : ℕ → V → X → X
 
   pub places_law : (rs : List (ℕ × V)) (x : X) → Sound x → records place write rs x ≡ writes write rs (places place (firsts [] (map (λ (r : ℕ × V). r.0) rs)) x)
   places_law rs x h = split rs x h ∙ ap (writes write rs) (each_once [] (map (λ (r : ℕ × V). r.0) rs) x h (λ n e. absurd (false≢true e)))
+
+-- ======== the first of each series ========
+-- what holds of all holds of the first ones
+pub each_first : (P : ℕ → Type 0) (seen ns : List ℕ) → EachOf P ns → EachOf P (firsts seen ns)
+each_first P seen [] all = tt
+each_first P seen (n ∷ ns) all = go (has_number n seen) (each_first P seen ns all.1) (each_first P (n ∷ seen) ns all.1)
+  where
+    go : (b : Bool) → EachOf P (firsts seen ns) → EachOf P (firsts (n ∷ seen) ns) → EachOf P (cond b (firsts seen ns) (n ∷ firsts (n ∷ seen) ns))
+    go true old new = old
+    go false old new = (all.0, new)
 
 -- ======== the first series of a beginning ========
 pub firsts-append : (seen ns ms : List ℕ) → (rest : List ℕ) × (firsts seen (ns ++ ms) ≡ firsts seen ns ++ rest)

@@ -24,14 +24,14 @@ use Rattle.otel_model.specs.Refusals.{refusal, record_refusal, held_refusal, han
 use Rattle.otel_model.specs.Steps.{reply_by, after_by, reply_of}
 use Rattle.otel_model.specs.Machine.{changed_at, instrument_after_record, accepted_by, accepted_after}
 use Rattle.otel_model.specs.Lawful.{IsLawful, IsOfEvents, PartIsLawful}
-use Rattle.otel_model.specs.Batches.{firsts, firsts_of, values_each, calls_of, placed_each, written_all, batch_after, IsDone, AreDone, AreAccepted, BatchesGroup, RefusalsStay, FirstsOfBeginning}
-use Rattle.otel_model.specs.Places.{Series, Listed, Held, call_at, instrument_at, placed_in, written_in}
-use Rattle.otel_model.proofs.Amounts.{each_weaker}
+use Rattle.otel_model.specs.Batches.{firsts, firsts_of, values_each, calls_of, placed_each, written_all, written_each, batch_after, IsDone, AreDone, AreAccepted, BatchesGroup, RefusalsStay, FirstsOfBeginning}
+use Rattle.otel_model.specs.Places.{Series, Listed, Held, call_at, instrument_at, placed_in, written_in, HasPlaces}
+use Rattle.otel_model.proofs.Amounts.{each_map, each_weaker}
 use Rattle.otel_model.proofs.Single.{some_is}
-use Rattle.otel_model.proofs.batches.Grouping.{records, firsts-append}
+use Rattle.otel_model.proofs.batches.Grouping.{records, each_first, each_record, firsts-append}
 use Rattle.otel_model.proofs.batches.Tables.{is_there}
 use Rattle.otel_model.proofs.batches.Streams.{IsHeldThere}
-use Rattle.otel_model.proofs.batches.Providers.{AreHeldThere, placing, writing, batch_law, accepted_is}
+use Rattle.otel_model.proofs.batches.Providers.{AreHeldThere, placing, writing, batch_law, accepted_is, rests}
 
 -- ======== lawful streams ========
 is_held_at : (h : ℕ) (g : AttributeSet) (hs : Handles) → held_by h hs ≡ Some g → is_held hs g ≡ true
@@ -88,7 +88,7 @@ fault_placed : (s t : Series) (w : Number) (st : State) → fault_of t w (placed
 fault_placed s (Listed n l) w st = refl
 fault_placed s (Held h) w st = refl
 
-fault_written : (s : Series) (v : Number) (t : Series) (w : Number) (st : State) → fault_of t w (written_in s v st) ≡ fault_of t w st
+pub fault_written : (s : Series) (v : Number) (t : Series) (w : Number) (st : State) → fault_of t w (written_in s v st) ≡ fault_of t w st
 fault_written s v (Listed n l) w st = same_at (λ o. record_refusal o w.signed) v.amount (λ i. refl) (instrument_at s st.shared.live) st.shared.instruments n
 fault_written s v (Held h) w st = go (instrument_held h st.shared.live)
   where
@@ -105,17 +105,21 @@ left_by read step e [] x = refl
 left_by read step e (c ∷ cs) x = left_by read step e cs (step x c) ∙ e c x
 
 -- ======== records one by one ========
+done_one : (s : Series) (v : Number) (st : State) → fault_of s v st ≡ None → IsDone st (call_at s v) (written_in s v (placed_in s st))
+done_one s v st e views = (answered s e, sym (accepted_is views st s v) ∙ λ i. after_by (sym e i) st (accepted_after views st (call_at s v)))
+  where
+    answered : (s : Series) → fault_of s v st ≡ None → Reply.Done ≡ reply_of st (call_at s v)
+    answered (Listed n l) e = λ i. reply_by (sym e i) Reply.Done
+    answered (Held h) e = λ i. reply_by (sym e i) Reply.Done
+
+-- a record that has no fault, of a series that has its places, is its value written
+pub written_done : (s : Series) (v : Number) (st : State) → HasPlaces s st → refusal st.shared (length st.readers) (call_at s v) ≡ None → IsDone st (call_at s v) (written_in s v st)
+written_done s v st placed e = subst (λ x. IsDone st (call_at s v) (written_in s v x)) (rests s st placed) (done_one s v st e)
+
 module _ (series : ℕ → Series) where
   accepted_still : (s : Series) (v : Number) (st : State) (rs : List (ℕ × Number)) → AreAccepted st (calls_of series rs) → AreAccepted (written_in s v (placed_in s st)) (calls_of series rs)
   accepted_still s v st [] h = tt
   accepted_still s v st (r ∷ rs) h = (fault_made s v (series r.0) r.1 st ∙ h.0, accepted_still s v st rs h.1)
-
-  done_one : (s : Series) (v : Number) (st : State) → fault_of s v st ≡ None → IsDone st (call_at s v) (written_in s v (placed_in s st))
-  done_one s v st e views = (answered s e, sym (accepted_is views st s v) ∙ λ i. after_by (sym e i) st (accepted_after views st (call_at s v)))
-    where
-      answered : (s : Series) → fault_of s v st ≡ None → Reply.Done ≡ reply_of st (call_at s v)
-      answered (Listed n l) e = λ i. reply_by (sym e i) Reply.Done
-      answered (Held h) e = λ i. reply_by (sym e i) Reply.Done
 
   done_all : (rs : List (ℕ × Number)) (st : State) → AreAccepted st (calls_of series rs) → AreDone st (calls_of series rs) (records (placing series) (writing series) rs st)
   done_all [] st h = refl
@@ -130,6 +134,33 @@ module _ (series : ℕ → Series) where
 -- ======== the laws ========
 pub groups_law : BatchesGroup
 groups_law series st rs lawful accepted = subst (AreDone st (calls_of series rs)) (batch_is series rs st lawful) (done_all series rs st accepted)
+
+-- places of series that have theirs change nothing
+placed-rests : (series : ℕ → Series) (ns : List ℕ) (st : State) → EachOf (λ n. HasPlaces (series n) st) ns → placed_each series ns st ≡ st
+placed-rests series [] st all = refl
+placed-rests series (n ∷ ns) st all = ap (placed_each series ns) (rests (series n) st all.0) ∙ placed-rests series ns st all.1
+
+-- a batch of records that have no fault, of series that have their places, is the values of each series written, in order
+-- of last records
+pub placed_groups : (series : ℕ → Series) (st : State) (rs : List (ℕ × Number)) → IsLawful st
+    → EachOf (λ (g : ℕ × List Number). EachOf (λ (v : Number). refusal st.shared (length st.readers) (call_at (series g.0) v) ≡ None) g.1 × HasPlaces (series g.0) st) (values_each rs)
+    → AreDone st (calls_of series rs) (written_each series (values_each rs) st)
+placed_groups series st rs lawful all = subst (λ x. AreDone st (calls_of series rs) (written_each series (values_each rs) x)) (placed-rests series (firsts_of rs) st placed) (groups_law series st rs lawful accepted)
+  where
+    IsFine : ℕ → Number → Type 0
+    IsFine n v = fault_of (series n) v st ≡ None
+
+    Placed : ℕ → Type 0
+    Placed n = HasPlaces (series n) st
+
+    each : EachOf (λ (r : ℕ × Number). IsFine r.0 r.1 × Placed r.0) rs
+    each = each_record Placed IsFine rs all
+
+    accepted : AreAccepted st (calls_of series rs)
+    accepted = each_map (λ (r : ℕ × Number). IsFine r.0 r.1 × Placed r.0) (λ call. refusal st.shared (length st.readers) call ≡ None) (λ (r : ℕ × Number). call_at (series r.0) r.1) rs (λ r h. h.0) each
+
+    placed : EachOf Placed (firsts_of rs)
+    placed = each_first Placed [] (map (λ (r : ℕ × Number). r.0) rs) (each_map (λ (r : ℕ × Number). IsFine r.0 r.1 × Placed r.0) Placed (λ (r : ℕ × Number). r.0) rs (λ r h. h.1) each)
 
 pub refusals_law : RefusalsStay
 refusals_law series st rs t w =

@@ -63,11 +63,11 @@ once s st = each_map (λ p. Unit {0}) (λ (p : ReaderPart). EachOf (IsPlaced p.f
 stays : (s t : Series) (st : State) → HasPlaces s st → HasPlaces s (placed_in t st)
 stays s t st h = streams_keep (λ feeds. IsPlaced feeds s) (λ feeds. IsPlaced feeds s) (λ feeds. stream_placed feeds t) (λ feeds q k. placed_stays feeds s t q k) st.readers h
 
-stays_written : (s t : Series) (w : Number) (st : State) → HasPlaces s st → HasPlaces s (written_in t w st)
+pub stays_written : (s t : Series) (w : Number) (st : State) → HasPlaces s st → HasPlaces s (written_in t w st)
 stays_written s t w st h = streams_keep (λ feeds. IsPlaced feeds s) (λ feeds. IsPlaced feeds s) (λ feeds. stream_written feeds t w)
     (λ feeds q k. placed_written feeds s (entry_at feeds t q) w.amount q k) st.readers h
 
-rests : (s : Series) (st : State) → HasPlaces s st → placed_in s st ≡ st
+pub rests : (s : Series) (st : State) → HasPlaces s st → placed_in s st ≡ st
 rests s st h = λ i. record st {
   readers = map_rests (λ (p : ReaderPart). EachOf (IsPlaced p.feeds s) p.streams) (changed (λ feeds. stream_placed feeds s))
       (λ p k j. record p { streams = map_rests (IsPlaced p.feeds s) (stream_placed p.feeds s) (placed_rests p.feeds s) p.streams k j }) st.readers h i;
