@@ -3,13 +3,14 @@
 ghost use Rattle.std.specs.Bool.{beq};
 ghost use Rattle.std.specs.Prelude.{◌≡◌, [], true, false, cond, None, Some, IsTrue, OnOk, OnErr, IfOk, IsOk, IsOkUnless};
 ghost use Rattle.otel_common.specs.Temporalities.{resets};
-ghost use Rattle.otel_model_stream.specs.Sets.{set_of};
+ghost use Rattle.otel_model_stream.specs.Sets.{AttributeSet, set_of};
 ghost use Rattle.otel_model_stream.specs.Folds.{Last};
 ghost use Rattle.otel_model_stream.specs.Machine.{without_none_handles};
 ghost use Rattle.otel_model_stream.specs.Maps.{new_map, bound_to};
 ghost use Rattle.otel_aggregate.specs.Any.{aggregate_of, is_monotonic_of, drains_of, amount_of, any_after_commit, any_after_none, any_after_record, is_signed_value, any_with_room, any_after_bind, any_after_update, is_updated, any_after_unbind, metrics_now, any_after_collection, draft_of, IsLike, with_draft};
 ghost use Rattle.otel_aggregate.specs.Kept.{IsWithin, state_of};
 ghost use Rattle.otel_aggregate.specs.Streams.{new_aggregate, is_known};
+ghost use Rattle.otel_aggregate.specs.value_map.Numbers.{is_placed};
 
 use crate::any_aggregator::{AnyAggregator, AnyConfig};
 use crate::draft::AggregateDraft;
@@ -228,6 +229,29 @@ impl AggregateStream {
         self.map.commit(record);
         // Tells the prover that the entries that kept their numbers are still named by them.
         self.map.law_of_numbers();
+        self.recorded = self.settings.counted(value, self.recorded);
+    }
+
+    /// Whether the entry that the prepared record uses is there already, so that the record makes none.
+    #[inline(always)]
+    pub fn has_entry(&self) -> bool
+        ensures { (s : AttributeSet) → self.now.pending ≡ Some s → result ≡ is_placed s self.now.state.map_state.table.entries }
+    {
+        self.map.has_entry()
+    }
+
+    /// Takes in a record for what is prepared, whose entry is there already, if the value has the stream's number type,
+    /// and keeps it prepared. Takes no memory, and looks nothing up.
+    #[inline(always)]
+    pub fn commit_kept(&mut self, value: NumberValue)
+        requires { (s : AttributeSet) × (self.old.pending ≡ Some s) × (is_placed s self.old.state.map_state.table.entries ≡ true) }
+        ensures taken { self.new ≡ record (any_after_commit value self.old) { pending = self.old.pending } }
+    {
+        if !self.takes(value) {
+            return;
+        }
+        let record = self.settings.record(value);
+        self.map.commit_kept(record);
         self.recorded = self.settings.counted(value, self.recorded);
     }
 

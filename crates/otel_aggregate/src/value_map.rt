@@ -13,7 +13,7 @@ ghost use Rattle.otel_model_stream.specs.Sets.{AttributeSet, allowed_part, none_
 ghost use Rattle.otel_model_stream.specs.Totals.{points_total};
 ghost use Rattle.otel_aggregate.specs.value_map.Contents.{known_of, is_there_in};
 ghost use Rattle.otel_aggregate.specs.value_map.Faults.{IsBindFault};
-ghost use Rattle.otel_aggregate.specs.value_map.Numbers.{number_of, is_number, handles_at, AreNamed, AreNumbered, spelling_of, KeepNumbers, KeepLeft};
+ghost use Rattle.otel_aggregate.specs.value_map.Numbers.{number_of, is_number, is_placed, handles_at, AreNamed, AreNumbered, spelling_of, KeepNumbers, KeepLeft};
 ghost use Rattle.otel_aggregate.specs.value_map.Slots.{HasForm, copies};
 
 use crate::aggregators::aggregator::Aggregator;
@@ -148,7 +148,7 @@ impl<A: Aggregator> ValueMap<A> {
         ensures spelling { OnOk result (self.new.spelling ≡ spelling_of list.now.key self.old.state) }
         ensures refused { OnErr result (self.new.pending ≡ None) }
         ensures known { SucceedsIfKnown list.now.key (known_of self.old) result }
-        ensures placed { IsTrue (is_there_in (canon list.now.key) self.old.state) → IsOk result }
+        ensures there { IsTrue (is_there_in (canon list.now.key) self.old.state) → IsOk result }
     {
         if let Some(number) = led_to(&self.table, list) {
             self.pending.give_up();
@@ -175,7 +175,7 @@ impl<A: Aggregator> ValueMap<A> {
         ensures ready { OnOk result (self.new.pending ≡ Some (bound_to (canon list.now.key) self.old.state)) }
         ensures spelling { OnOk result (self.new.spelling ≡ spelling_of list.now.key self.old.state) }
         ensures refused { OnErr result (self.new.pending ≡ None) }
-        ensures placed { IsTrue (is_there_in (canon list.now.key) self.old.state) → IsOk result }
+        ensures there { IsTrue (is_there_in (canon list.now.key) self.old.state) → IsOk result }
         ensures only_memory { IsOkUnless result Fault.OutOfMemory }
     {
         self.pending.give_up();
@@ -251,7 +251,7 @@ impl<A: Aggregator> ValueMap<A> {
         ensures spelling { OnOk result (self.new.spelling ≡ spelling_of given.now self.old.state) }
         ensures refused { OnErr result (self.new.pending ≡ None) }
         ensures known { SucceedsIfKnown given.now (known_of self.old) result }
-        ensures placed { IsTrue (is_there_in (canon given.now) self.old.state) → IsOk result }
+        ensures there { IsTrue (is_there_in (canon given.now) self.old.state) → IsOk result }
     {
         let list = given.list(self.table.hasher());
         self.prepare_list(&list, None, given.as_slice())
@@ -276,7 +276,7 @@ impl<A: Aggregator> ValueMap<A> {
         ensures spelling { OnOk result (self.new.spelling ≡ spelling_of (allowed_part (Some allow.now) attributes.now) self.old.state) }
         ensures refused { OnErr result (self.new.pending ≡ None) }
         ensures known { SucceedsIfKnown (allowed_part (Some allow.now) attributes.now) (known_of self.old) result }
-        ensures placed { IsTrue (is_there_in (set_of (Some allow.now) attributes.now) self.old.state) → IsOk result }
+        ensures there { IsTrue (is_there_in (set_of (Some allow.now) attributes.now) self.old.state) → IsOk result }
         ensures only_memory { IsOkUnless result Fault.OutOfMemory }
     {
         if let Some(few) = kept_references(Some(allow), attributes) {
@@ -315,6 +315,14 @@ impl<A: Aggregator> ValueMap<A> {
         !matches!(self.pending, Pending::Nothing)
     }
 
+    /// Whether the entry that the prepared record or bind uses is there already.
+    #[inline(always)]
+    pub(crate) fn has_entry(&self) -> bool
+        ensures { (s : AttributeSet) → self.now.pending ≡ Some s → result ≡ is_placed s self.now.state.table.entries }
+    {
+        matches!(self.pending, Pending::At(_))
+    }
+
     /// Takes in the prepared record; `is_prepared` tells whether there is one. This is the second phase; it looks nothing
     /// up for a set that has an entry.
     #[inline(always)]
@@ -327,6 +335,21 @@ impl<A: Aggregator> ValueMap<A> {
     {
         let entry = self.place();
         self.table.touch(entry, value);
+    }
+
+    /// Takes in a record for what is prepared, whose entry is there already, and keeps it prepared; `has_entry` tells
+    /// whether the entry is there. Takes no memory, and looks nothing up.
+    #[inline(always)]
+    pub(crate) fn commit_kept(&mut self, value: A::PreComputedValue)
+        requires { (s : AttributeSet) × (self.old.pending ≡ Some s) × (is_placed s self.old.state.table.entries ≡ true) }
+        ensures measured { (s : AttributeSet) → self.old.pending ≡ Some s → self.new.state ≡ measured_map s (A.sample value) self.old.state }
+        ensures numbers { self.new.numbers ≡ self.old.numbers }
+        ensures given { self.new.given ≡ self.old.given }
+        ensures kept { self.new.pending ≡ self.old.pending }
+    {
+        if let Pending::At(number) = self.pending {
+            self.table.touch(number, value);
+        }
     }
 
     /// Takes in a record for the empty set, which always has an entry. Looks nothing up, takes no memory, and gives up
@@ -358,7 +381,7 @@ impl<A: Aggregator> ValueMap<A> {
         ensures err { OnErr result (known_of self.new ≡ known_of self.old) }
         ensures spent { self.new.pending ≡ None }
         ensures known { SucceedsIfKnown attributes.now (known_of self.old) result }
-        ensures placed { IsTrue (is_there_in (canon attributes.now) self.old.state) → IsOk result }
+        ensures there { IsTrue (is_there_in (canon attributes.now) self.old.state) → IsOk result }
         ensures only_memory { IsOkUnless result Fault.OutOfMemory }
     {
         self.measure_given(value, &GivenAttributes::new(attributes))
@@ -377,7 +400,7 @@ impl<A: Aggregator> ValueMap<A> {
         ensures err { OnErr result (known_of self.new ≡ known_of self.old) }
         ensures spent { self.new.pending ≡ None }
         ensures known { SucceedsIfKnown attributes.now (known_of self.old) result }
-        ensures placed { IsTrue (is_there_in (canon attributes.now) self.old.state) → IsOk result }
+        ensures there { IsTrue (is_there_in (canon attributes.now) self.old.state) → IsOk result }
         ensures only_memory { IsOkUnless result Fault.OutOfMemory }
     {
         let list = attributes.list(self.table.hasher());
@@ -432,7 +455,7 @@ impl<A: Aggregator> ValueMap<A> {
         ensures err { OnErr result (known_of self.new ≡ known_of self.old) }
         ensures spent { self.new.pending ≡ None }
         ensures known { handles_at (bound_to (canon attributes.now) self.old.state) self.old.state.table < 2 ^ 64 - 1 → SucceedsIfKnown attributes.now (known_of self.old) result }
-        ensures placed { handles_at (bound_to (canon attributes.now) self.old.state) self.old.state.table < 2 ^ 64 - 1 → IsTrue (is_there_in (canon attributes.now) self.old.state) → IsOk result }
+        ensures there { handles_at (bound_to (canon attributes.now) self.old.state) self.old.state.table < 2 ^ 64 - 1 → IsTrue (is_there_in (canon attributes.now) self.old.state) → IsOk result }
         ensures refused { IfErr result (IsBindFault (handles_at (bound_to (canon attributes.now) self.old.state) self.old.state.table)) }
     {
         self.prepare(&GivenAttributes::new(attributes))?;

@@ -1,5 +1,5 @@
 -- Where a record's entry is, once its set has a place.
-use Rattle.std.proofs.Common.{ℕ, ◌-◌, ◌^◌, ◌<◌, ◌≡◌, List, [], ◌∷◌, ◌++◌, nat_lt, Bool, true, false, cond, ◌||◌, Option, Some, None, append-nil, refl, ap, arith, subst, sym, ◌∙◌}
+use Rattle.std.proofs.Common.{ℕ, ◌-◌, ◌+◌, ◌^◌, ◌<◌, ◌≡◌, List, [], ◌∷◌, ◌++◌, map, nat_lt, Bool, true, false, cond, ◌||◌, Option, Some, None, append-nil, refl, ap, arith, subst, sym, ◌∙◌}
 use Rattle.std.specs.Map.{lookup, keys_of}
 use Rattle.std.proofs.lemmas.Bool.{cond_both, or_left, or_right, or_parts}
 use Rattle.std.proofs.lemmas.List.Folds.{list_any-append}
@@ -8,7 +8,7 @@ use Rattle.otel_common.specs.Equality.{set_eq}
 use Rattle.otel_common.specs.declared.attributes.KeyValue.{KeyValue}
 use Rattle.otel_model_stream.specs.Folds.{Fold, Sample}
 use Rattle.otel_model_stream.specs.Sets.{AttributeSet, none_set, over_set}
-use Rattle.otel_model_stream.specs.Entries.{Entry, Table, new_entry, is_of, has, number_counted, entries_with_place, entry_for, place, at_entry, write, take_handle}
+use Rattle.otel_model_stream.specs.Entries.{Entry, Table, new_entry, is_of, has, number_counted, entries_with_place, entry_for, place, on, at_entry, write, take_handle}
 use Rattle.otel_model_stream.specs.Maps.{MapState, with_place, measured_map, measured_list, bound_map, bound_to}
 use Rattle.otel_aggregate.specs.value_map.Keyed.{Slotted, IsNew}
 use Rattle.otel_aggregate.specs.value_map.Slots.{Kept, entry_of, new_kept}
@@ -16,8 +16,10 @@ use Rattle.otel_aggregate.specs.value_map.Numbers.{Numbers, number_of, KeepNumbe
 use Rattle.otel_aggregate.specs.value_map.Contents.{IsPlan, IsPlanAt, IsSound, IsReady, pending_in, used_by}
 use Rattle.otel_aggregate.specs.declared.value_map.pending.Pending.{Pending}
 use Rattle.otel_aggregate.specs.declared.value_map.pending.Pending.TheVariants.{Nothing, At, New}
+use Rattle.otel_aggregate.proofs.HandleLemmas.{has-on}
 use Rattle.otel_aggregate.proofs.value_map.KeyedLemmas.{same_set, set_eq-self, set_eq-flip}
 use Rattle.otel_aggregate.proofs.value_map.AddLemmas.{lookup-pushed, numbers-pushed}
+use Rattle.otel_aggregate.proofs.value_map.TableLemmas.{counted_cons}
 
 -- what a place does: the entries, and which of them the set uses
 pub record Placing (limit : ℕ) (empty : Fold) (s : AttributeSet) (entries after : List Entry) (used : AttributeSet) : Type 0 where
@@ -130,6 +132,32 @@ used-measured m s v = λ i. record (used-placed m s i) { table = at_entry (used-
 pub used-held : (m : MapState) (s : AttributeSet) → bound_map (bound_to s m) m ≡ bound_map s m
 used-held m s = λ i. record (used-placed m s i) { table = at_entry (used-own m s i) take_handle (used-placed m s i).table }
 
+-- ======== a record of a set whose entry is there ========
+counted-written : (g : AttributeSet) (v : Sample) (es : List Entry) → number_counted (map (on g (write v)) es) ≡ number_counted es
+counted-written g v [] = refl
+counted-written g v (e ∷ es) =
+    let one : (on g (write v) e).counted ≡ e.counted = cond_both (is_of g e) (write v e) e (λ (x : Entry). x.counted ≡ e.counted) (λ q. refl) (λ q. refl) in
+    counted_cons (on g (write v) e) (map (on g (write v)) es) ∙ (λ i. cond (one i) 1 0 + counted-written g v es i) ∙ sym (counted_cons e es)
+
+module _ (m : MapState) (s : AttributeSet) (v : Sample) (there : is_placed (bound_to s m) m.table.entries ≡ true) where
+  written : measured_map s v m ≡ record m { table = at_entry (bound_to s m) (write v) m.table }
+  written = sym (used-measured m s v) ∙ measured-by m (bound_to s m) v (bound_to s m) (place-there m.limit m.empty (bound_to s m) m.table.entries there)
+
+  -- it is there still
+  pub there-still : is_placed (bound_to s m) (measured_map s v m).table.entries ≡ true
+  there-still =
+      ap (λ (x : MapState). is_placed (bound_to s m) x.table.entries) written
+      ∙ ap (λ b. set_eq (bound_to s m) none_set || b) (has-on (write v) (λ e. refl) (bound_to s m) (bound_to s m) m.table.entries)
+      ∙ there
+
+  -- and the set uses it still
+  pub bound-still : bound_to s (measured_map s v m) ≡ bound_to s m
+  bound-still =
+      sym (used-bound (measured_map s v m) s)
+      ∙ ap (λ (x : MapState). used_by (nat_lt (number_counted x.table.entries) x.limit) s x.table.entries) written
+      ∙ (λ i. cond ((set_eq s none_set || has-on (write v) (λ e. refl) (bound_to s m) s m.table.entries i) || nat_lt (counted-written (bound_to s m) v m.table.entries i) m.limit) s over_set)
+      ∙ used-bound m s
+
 -- ======== what is prepared ========
 pub sound-nothing : (t : Slotted) (few room : Bool) (p : Pending) → p ≡ Nothing → IsSound t few room p
 sound-nothing t few room p is = subst (IsSound t few room) (sym is) tt
@@ -140,6 +168,16 @@ new-prepared t few room p set list sound is = subst (IsSound t few room) (sym is
 
 pub new-set : (ns : Numbers) (p : Pending) (set s : AttributeSet) (list : Option (List KeyValue)) → New set list ≡ p → pending_in ns p ≡ Some s → set ≡ s
 new-set ns p set s list is e = let both : Some set ≡ Some s = ap (pending_in ns) is ∙ e in cc
+
+-- what uses an entry that is there can be carried out still once a record is written there
+pub sound-written : (t after : Slotted) (few room now_few now_room : Bool) (p : Pending) (n : ℕ) (v : Sample) → p ≡ At n → IsSound t few room p
+    → ((s : AttributeSet) → number_of s t.numbers ≡ Some n → after.table ≡ at_entry s (write v) t.table) → after.numbers ≡ t.numbers → IsSound after now_few now_room p
+sound-written t after few room now_few now_room p n v is sound written numbers =
+    let g : AttributeSet = set_named n t.numbers in
+    let there = subst (IsSound t few room) is sound in
+    let placed : is_placed g after.table.entries ≡ true = ap (λ (x : Table). is_placed g x.entries) (written g there.0) ∙ ap (λ b. set_eq g none_set || b) (has-on (write v) (λ e. refl) g g t.table.entries) ∙ there.1 in
+    subst (IsSound after now_few now_room) (sym is)
+    (subst (λ (ns : Numbers). (number_of (set_named n ns) ns ≡ Some n) × (is_placed (set_named n ns) after.table.entries ≡ true)) (sym numbers) (there.0, placed))
 
 -- the numbers with one more
 numbers-added : (old new : Numbers) (s : AttributeSet) (n : ℕ) → new.none ≡ old.none → new.sets ≡ old.sets ++ (s, n) ∷ [] → IsNew old.sets s → KeepNumbers old new × (number_of s new ≡ Some n)

@@ -76,14 +76,11 @@ module _ (t : Slotted) (l : List KeyValue) (unled : leads l t ≡ false) (away :
   bare = some-canon l apart.0
 
   -- its entry is there only past the limit, with the overflow entry
-  unplaced : is_placed (canon l) t.table.entries ≡ false
-  unplaced = ap (λ b. b || has (canon l) t.table.entries) bare ∙ away
-
   pub past-there : (few : Bool) → few ≡ false → is_there few (canon l) t.table.entries ≡ has over_set t.table.entries
-  past-there few past = λ i. unplaced i || (not (past i) && has over_set t.table.entries)
+  past-there few past = λ i. bare i || (away i || (not (past i) && has over_set t.table.entries))
 
   pub none-there : (few : Bool) → few ≡ true → is_there few (canon l) t.table.entries ≡ false
-  none-there few below = λ i. unplaced i || (not (below i) && has over_set t.table.entries)
+  none-there few below = λ i. bare i || (away i || (not (below i) && has over_set t.table.entries))
 
   -- past the limit, with the overflow entry
   pub plan-over : (n : ℕ) → IsNumberOf over_set n t.numbers → has over_set t.table.entries ≡ true → IsPlan t false l (At n)

@@ -74,7 +74,7 @@ used_by few s es = cond (is_placed s es || few) s over_set
 
 -- whether the entry that a record or bind of the set uses is there
 abbrev pub is_there : Bool → AttributeSet → List Entry → Bool
-is_there few s es = is_placed s es || (not few && has over_set es)
+is_there few s es = set_eq s none_set || (has s es || (not few && has over_set es))
 
 -- the same in a map
 abbrev pub is_there_in : AttributeSet → MapState → Bool

@@ -6,7 +6,7 @@ use Rattle.otel_model_stream.specs.Entries.{Entry, Table, has, number_counted}
 use Rattle.otel_model_stream.specs.Maps.{MapState, bound_to}
 use Rattle.otel_model_stream.specs.Sets.{AttributeSet, none_set, over_set}
 use Rattle.otel_aggregate.specs.value_map.Keyed.{Slotted}
-use Rattle.otel_aggregate.specs.value_map.Numbers.{Numbers, is_placed, spelling_of}
+use Rattle.otel_aggregate.specs.value_map.Numbers.{Numbers, spelling_of}
 use Rattle.otel_aggregate.specs.value_map.Contents.{MapContents, IsPlan, IsReady, is_there, known_of, pending_in, used_by}
 use Rattle.otel_aggregate.specs.declared.value_map.pending.Pending.{Pending}
 use Rattle.otel_aggregate.specs.declared.value_map.pending.Pending.TheVariants.{Nothing, At, New}
@@ -21,15 +21,15 @@ new-away t few l Nothing some p other = let e = p.pending in absurd (cc)
 new-away t few l (At n) some p other = absurd (other n refl)
 new-away t few l (New set list) some p other = by few refl
   where
-    gone : is_placed (canon l) t.table.entries ≡ false
-    gone = ap (λ b. b || has (canon l) t.table.entries) (some-canon l some) ∙ p.away refl
+    bare : set_eq (canon l) none_set ≡ false
+    bare = some-canon l some
 
     by : (b : Bool) → few ≡ b → is_there few (canon l) t.table.entries ≡ false
-    by true f = λ i. gone i || (not (f i) && has over_set t.table.entries)
+    by true f = λ i. bare i || (p.away refl i || (not (f i) && has over_set t.table.entries))
     by false f =
         let ready : IsReady t few true set list = p.sound true refl in
         let over : has over_set t.table.entries ≡ false = subst (λ x. has x t.table.entries ≡ false) (ready.past f) ready.absent in
-        λ i. gone i || (not (f i) && over i)
+        λ i. bare i || (p.away refl i || (not (f i) && over i))
 
 pub invariant_of-self-2 : goal.invariant_of-self-2
 invariant_of-self-2 g c =
@@ -81,14 +81,14 @@ returns-in-At-clause-spelling g c =
     ∙ ap (λ (k : ℕ). cond ((not (set_eq (canon l) none_set) && (not (has (canon l) entries) && nat_lt k c.self.inside.limit)) && not (set_eq (canon l) l)) (l ∷ []) []) c.self.invariant.0
     ∙ ap (λ (h : MapContents). spelling_of l h.state) c.self.view_is
 
-pub returns-in_err-make_ready-clause-placed : goal.returns-in_err-make_ready-clause-placed
-returns-in_err-make_ready-clause-placed g c =
+pub returns-in_err-make_ready-clause-there : goal.returns-in_err-make_ready-clause-there
+returns-in_err-make_ready-clause-there g c =
     let few : Bool = nat_lt c.self.inside.count c.self.inside.limit in
     let l : List KeyValue = c.args.list.now.key in
     let away = new-away c.self.inside.table few l c.in_ok-plan.plan (unknown-some l (known_of c.args.self.now) c.requires.unknown) c.in_ok-plan.ensures.plan c.in_default.not-At in
     rw (← c.self.view_is) (λ there. absurd (true≢false (sym there ∙ ap (λ k. is_there (nat_lt k c.self.inside.limit) (canon l) c.self.inside.table.table.entries) (sym c.self.invariant.0) ∙ away)))
 
-pub returns-in_err-plan-clause-placed : goal.returns-in_err-plan-clause-placed
-returns-in_err-plan-clause-placed g c =
+pub returns-in_err-plan-clause-there : goal.returns-in_err-plan-clause-there
+returns-in_err-plan-clause-there g c =
     let l : List KeyValue = c.args.list.now.key in
     rw (← c.self.view_is) (λ there. absurd (true≢false (sym (c.in_err-plan.ensures.there (ap (λ k. is_there (nat_lt k c.self.inside.limit) (canon l) c.self.inside.table.table.entries) c.self.invariant.0 ∙ there)))))
