@@ -2,14 +2,14 @@ pub mod AcceptedSteps
 pub mod Asked
 pub mod Collects
 pub mod Full
+pub mod Grouped
+pub mod GroupsLemmas
 pub mod Headlines
 pub mod Held
-pub mod Holding
 pub mod Identities
 pub mod KeptRuns
 pub mod KnownRuns
 pub mod Lists
-pub mod Marks
 pub mod Reached
 pub mod SeriesLemmas
 pub mod Sound

@@ -19,3 +19,5 @@ pub mod Writes
 pub mod Handles
 pub mod Known
 pub mod NoAttributes
+pub mod Settled
+pub mod Batches

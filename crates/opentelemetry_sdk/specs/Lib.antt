@@ -6,6 +6,7 @@ pub mod Callbacks
 pub mod Checks
 pub mod Cores
 pub mod Correspondence
+pub mod Groups
 pub mod Headline
 pub mod Known
 pub mod Lent

@@ -1,18 +1,20 @@
 //! One reader's part of a provider: its answers, its streams, and what feeds them.
 
 ghost use Rattle.std.specs.Prelude.{◌≡◌, [], true, false, ℕ, IfOk, OnOk, OnErr, IsOk, IsOkUnless, map};
+ghost use Rattle.std.specs.List.{AllByRecursion as EachOf};
 ghost use Rattle.otel_model.specs.Calls as model;
 ghost use Rattle.otel_model.specs.Machine.{part_after_call};
+ghost use Rattle.otel_model.specs.Places.{Listed, IsPlaced};
 ghost use Rattle.opentelemetry_sdk.specs.pipeline.Collections.{IsCollectedFrom};
 ghost use Rattle.opentelemetry_sdk.specs.pipeline.Handles.{AreObservableFor, StandsFor};
 ghost use Rattle.opentelemetry_sdk.specs.pipeline.Known.{is_known_at};
 ghost use Rattle.opentelemetry_sdk.specs.pipeline.Observations.{AreTypedFor, observed_of};
-ghost use Rattle.opentelemetry_sdk.specs.pipeline.Pipelines.{part_of, has_stream_at, number_of, FeedsType, IsLawful, IsReadyFor};
+ghost use Rattle.opentelemetry_sdk.specs.pipeline.Pipelines.{part_of, part_after_each, has_stream_at, number_of, FeedsType, IsLawful, IsReadyFor};
 ghost use Rattle.otel_aggregate.specs.Any.{is_signed_value};
 
 use crate::pipeline::about::About;
 use crate::pipeline::change::Change;
-use crate::pipeline::each_stream::{change_each, prepare_each, streams_fed};
+use crate::pipeline::each_stream::{change_each, prepare_each, record_known_each, streams_fed};
 use crate::pipeline::metric_stream::MetricStream;
 use crate::pipeline::observing::collect_observed;
 use indexmap::IndexSet;
@@ -199,6 +201,27 @@ impl Pipeline {
         self.prepare(instrument, &given, false)?;
         self.change(instrument, Change::Prepared(value));
         Ok(())
+    }
+
+    /// Takes in records of these values with the attributes in the streams that the instrument feeds, if they all know the
+    /// attributes, and answers whether they do. If one doesn't, others may have taken the records in; without values nothing
+    /// changes. Hashes the attributes once if several streams look them up.
+    pub fn record_known(
+        &mut self,
+        instrument: usize,
+        values: &[NumberValue],
+        attributes: &GivenAttributes,
+    ) -> bool
+        requires { EachOf (λ v. FeedsType instrument (is_signed_value v) (part_of self.old)) values.now }
+        ensures told { result ≡ is_known_at instrument attributes.now (part_of self.old) }
+        ensures placed { result ≡ true → EachOf (IsPlaced (part_of self.old).feeds (Listed instrument attributes.now)) (part_of self.old).streams }
+        ensures made { result ≡ true → part_of self.new ≡ part_after_each instrument values.now attributes.now (part_of self.old) }
+        ensures idle { values.now ≡ [] → part_of self.new ≡ part_of self.old }
+    {
+        self.law_of_identities();
+        let feeds = streams_fed(&self.feeds, instrument);
+        let given = attributes.hashed_for(feeds.len(), self.hasher);
+        record_known_each(&mut self.streams, feeds, values, &given)
     }
 
     /// Takes in what was observed, and makes a collection at the moment `now`, in nanoseconds since 1970, for the

@@ -23,7 +23,7 @@ use Rattle.opentelemetry_sdk.specs.declared.calls.Call.TheVariants as call
 use Rattle.opentelemetry_sdk.specs.declared.calls.Reply.TheVariants as reply
 use Rattle.opentelemetry_sdk.specs.declared.metrics.shared.pending.PendingRecord.{PendingRecord}
 use Rattle.opentelemetry_sdk.specs.declared.metrics.shared.pending.PendingRecord.TheVariants as pending
-use Rattle.opentelemetry_sdk.specs.pipeline.Known.{overflows, is_known_in, is_known_to, is_known_by, is_known_at}
+use Rattle.opentelemetry_sdk.specs.pipeline.Known.{is_known_to, is_known_by, is_known_at}
 use Rattle.opentelemetry_sdk.specs.pipeline.Pipelines.{has_stream_at, some_stream}
 use Rattle.otel_sdk_rows.proofs.RowWords.{x1, y1, z1, u64, m, about, cumulative, limited, begun_with, begun, ended, used}
 
@@ -64,14 +64,6 @@ streams = concat_lists (map (λ (part : ReaderPart). part.streams) used.readers)
 pub known_to_streams : map (is_known_to y1) streams ≡ true ∷ false ∷ true ∷ false ∷ []
 unfolding canon
 known_to_streams = refl
-
-pub overflowing_streams : map (λ (q : Stream). overflows q.demand.limit q.machine.table.entries) streams ≡ false ∷ false ∷ true ∷ false ∷ []
-unfolding canon
-overflowing_streams = refl
-
-pub known_in_tables : map (λ (q : Stream). is_known_in y1 q.demand.limit q.machine.table.entries) streams ≡ true ∷ false ∷ true ∷ false ∷ []
-unfolding canon
-known_in_tables = refl
 
 abbrev counter : Identity
 counter = (own_demand cumulative m (about Counter)).identity

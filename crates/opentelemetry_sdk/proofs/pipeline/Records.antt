@@ -157,7 +157,7 @@ record-sent p lawful next n value l typed f keeps made = each-sent p lawful next
     (λ i k at s fed. sent-if p.answers next n (number_of value) l (map (named_identities p.streams) p.feeds) k false fed)
 
 -- a prepared record is one of the set itself
-used-recorded : (s : AttributeSet) (v : Amount) (k : StreamContents) → with_record (used_for s k) v k ≡ with_record s v k
+pub used-recorded : (s : AttributeSet) (v : Amount) (k : StreamContents) → with_record (used_for s k) v k ≡ with_record s v k
 used-recorded s v k =
     let q : Stream = k.stream in
     let m : MapState = record { limit = q.demand.limit; empty = empty_of (aggregate_of q.demand); table = q.machine.table } in

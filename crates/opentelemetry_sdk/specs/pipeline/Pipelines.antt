@@ -4,10 +4,10 @@ use Rattle.std.specs.List.{IsDistinct, AllByRecursion}
 use Rattle.otel_common.specs.declared.attributes.KeyValue.{KeyValue}
 use Rattle.otel_data.specs.declared.numbers.NumberValue.{NumberValue}
 use Rattle.otel_aggregate.specs.Any.{is_signed_value, amount_of}
-use Rattle.otel_model.specs.Calls.{Number, or_else}
+use Rattle.otel_model.specs.Calls.{Number, Record, or_else}
 use Rattle.otel_model.specs.Demands.{Identity, Demand, ReaderAnswers, identity_eq, is_drop, is_dropped, fed_identities}
 use Rattle.otel_model.specs.State.{Stream, ReaderPart}
-use Rattle.otel_model.specs.Machine.{changed_at, part_after_demand}
+use Rattle.otel_model.specs.Machine.{changed_at, part_after_call, part_after_demand}
 use Rattle.otel_model.specs.Sent.{is_fed, set_for}
 use Rattle.otel_model.specs.Streams.{is_delta, is_drained}
 use Rattle.otel_model_stream.specs.Totals.{has_number}
@@ -139,6 +139,10 @@ HashesFrom seed p = p.hash_seed ≡ seed
 abbrev pub number_of : NumberValue → Number
 number_of value = record { signed = is_signed_value value; amount = amount_of value }
 
+-- the reader's part after a record of each of these values, with these attributes
+abbrev pub part_after_each : ℕ → List NumberValue → List KeyValue → ReaderPart → ReaderPart
+part_after_each n vs l p = fold (λ (p : ReaderPart) (v : NumberValue). part_after_call 0 (Record n (number_of v) l) p) p vs
+
 -- the elements, once f is done to the one with each of these numbers
 abbrev pub changed_each : {X : Type 0} → (X → X) → List ℕ → List X → List X
 changed_each f ns xs = fold (λ ys n. changed_at n f ys) xs ns
@@ -177,6 +181,10 @@ all_without_pending streams = map without_pending streams
 -- the reader's part, once f is done to each stream that the instrument feeds
 abbrev pub part_changed_by : (StreamContents → StreamContents) → ℕ → Piped → ReaderPart
 part_changed_by f instrument p = part_by p.answers (changed_each f (fed_by instrument p) p.streams) p.feeds
+
+-- for each stream whether it resets, and its demand, which no record changes
+abbrev pub terms_of : List StreamContents → List (Bool × Demand)
+terms_of streams = map {B = Bool × Demand} (λ (k : StreamContents). (k.resets, k.stream.demand)) streams
 
 -- ======== collections ========
 -- the streams after a collection at a moment

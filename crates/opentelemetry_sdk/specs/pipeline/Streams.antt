@@ -1,5 +1,5 @@
 -- One stream of a reader: the model's stream, with what the model leaves out.
-use Rattle.std.specs.Prelude.{ℕ, ◌+◌, Bool, true, false, cond, ◌&&◌, not, List, [], map, Option, None, Some, is_none, ◌≡◌}
+use Rattle.std.specs.Prelude.{ℕ, ◌+◌, Bool, true, false, cond, ◌&&◌, not, List, [], map, fold, Option, None, Some, is_none, ◌≡◌}
 use Rattle.std.specs.Bool.{beq}
 use Rattle.otel_common.specs.declared.metrics.Temporality.TheVariants.{Cumulative, Delta}
 use Rattle.otel_common.specs.declared.attributes.KeyValue.{KeyValue}
@@ -111,6 +111,10 @@ committed_by (Some s) v h = with_record s v h
 -- after a record of a value with attributes; a stream of the other number type doesn't change
 abbrev pub contents_after_record : NumberValue → List KeyValue → StreamContents → StreamContents
 contents_after_record value l h = cond (beq (is_signed_value value) h.stream.demand.identity.signed) (with_record (set_for h.stream.demand l) (amount_of value) h) h
+
+-- after a record of each of these values, one after another
+abbrev pub contents_after_each : List NumberValue → List KeyValue → StreamContents → StreamContents
+contents_after_each values l h = fold (λ (k : StreamContents) (value : NumberValue). contents_after_record value l k) h values
 
 -- the stream, with nothing prepared and no room made
 abbrev pub without_pending : StreamContents → StreamContents

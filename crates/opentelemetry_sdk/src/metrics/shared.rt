@@ -6,7 +6,7 @@ pub mod account;
 mod adding;
 mod batch;
 mod booked;
-mod holdings;
+mod groups;
 mod locked;
 mod pending;
 mod series;

@@ -8,7 +8,7 @@ ghost use Rattle.otel_model.specs.Collections.{number_of_points};
 ghost use Rattle.opentelemetry_sdk.specs.pipeline.Known.{is_known_to};
 ghost use Rattle.opentelemetry_sdk.specs.pipeline.Pipelines.{IsReady};
 ghost use Rattle.opentelemetry_sdk.specs.pipeline.Observations.{IsDraftOf, draft_of, drafted};
-ghost use Rattle.opentelemetry_sdk.specs.pipeline.Streams.{IsMakeable, new_contents, without_pending, contents_after, contents_after_record, contents_after_collection, shown_metric, if_points};
+ghost use Rattle.opentelemetry_sdk.specs.pipeline.Streams.{IsMakeable, new_contents, without_pending, contents_after, contents_after_record, contents_after_each, contents_after_collection, shown_metric, if_points};
 
 use crate::pipeline::aggregations::{is_observable, settings_of};
 use crate::pipeline::change::Change;
@@ -131,6 +131,26 @@ impl MetricStream {
         ensures known { is_known_to attributes.now self.old.stream ≡ true → IsOk result }
     {
         self.aggregate.measure(value, attributes)
+    }
+
+    /// Takes in records of these values with the attributes, those of the stream's number type, if a record of the
+    /// attributes makes no entry, and answers whether that is so. Otherwise nothing changes. Looks the attributes up once.
+    pub(crate) fn record_known(
+        &mut self,
+        values: &[NumberValue],
+        attributes: &GivenAttributes,
+    ) -> bool
+        ensures told { result ≡ is_known_to attributes.now self.old.stream }
+        ensures made { result ≡ true → without_pending self.new ≡ without_pending (contents_after_each values.now attributes.now self.old) }
+        ensures unmade { result ≡ false → without_pending self.new ≡ without_pending self.old }
+    {
+        if self.aggregate.prepare(attributes).is_err() || !self.aggregate.has_entry() {
+            return false;
+        }
+        for value in values {
+            self.aggregate.commit_kept(*value);
+        }
+        true
     }
 
     /// Carries a change out, and returns the place of the handle that it bound, for a record through it; 0 if it bound

@@ -6,9 +6,10 @@ ghost use Rattle.std.specs.Option.{option_map};
 ghost use Rattle.otel_model.specs.Calls as model;
 ghost use Rattle.otel_model.specs.Machine as machine;
 ghost use Rattle.otel_model.specs.Machine.{part_after_call};
+ghost use Rattle.otel_model.specs.Places.{Listed, IsPlaced};
 ghost use Rattle.opentelemetry_sdk.specs.pipeline.Handles.{FeedsSynchronous, IsNewAt, StandsFor};
 ghost use Rattle.opentelemetry_sdk.specs.pipeline.Known.{is_known_at};
-ghost use Rattle.opentelemetry_sdk.specs.pipeline.Pipelines.{part_of, has_stream_at, HashesFrom, IsReadyFor};
+ghost use Rattle.opentelemetry_sdk.specs.pipeline.Pipelines.{part_of, part_after_each, has_stream_at, HashesFrom, IsReadyFor};
 ghost use Rattle.opentelemetry_sdk.specs.pipeline.Views.{views_answering};
 ghost use Rattle.opentelemetry_sdk.specs.Correspondence.{number_of};
 ghost use Rattle.opentelemetry_sdk.specs.States.{IsGoodIn, FeedType};
@@ -166,4 +167,31 @@ pub(crate) fn bind_or_none(
 {
     prepare_all(pipelines, instrument, attributes, true)?;
     Ok(change_all(pipelines, instrument, Change::Bind(handle)))
+}
+
+/// Takes in records of these values with the attributes in the streams that an instrument feeds, at all readers, if these
+/// all know the attributes, and answers whether they do. If one doesn't, others may have taken the records in; without
+/// values nothing changes. Hashes the attributes once if several readers are to look them up.
+pub(crate) fn record_known_all(
+    pipelines: &mut [Pipeline],
+    instrument: usize,
+    values: &[NumberValue],
+    attributes: &GivenAttributes,
+) -> bool
+    requires { EachOf (λ v. FeedType instrument (number_of v) (map part_of pipelines.old)) values.now }
+    ensures told { result ≡ list_all (is_known_at instrument attributes.now) (map part_of pipelines.old) }
+    ensures placed { result ≡ true → EachOf (λ p. EachOf (IsPlaced p.feeds (Listed instrument attributes.now)) p.streams) (map part_of pipelines.old) }
+    ensures made { result ≡ true → map part_of pipelines.new ≡ map (part_after_each instrument values.now attributes.now) (map part_of pipelines.old) }
+    ensures idle { values.now ≡ [] → map part_of pipelines.new ≡ map part_of pipelines.old }
+{
+    let Some(first) = pipelines.first() else {
+        return true;
+    };
+    let given = attributes.hashed_for(pipelines.len(), first.hasher);
+    for i in 0..pipelines.len() {
+        if !pipelines[i].record_known(instrument, values, &given) {
+            return false;
+        }
+    }
+    true
 }

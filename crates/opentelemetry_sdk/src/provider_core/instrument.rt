@@ -1,6 +1,6 @@
 //! Instruments, as the provider keeps them.
 
-ghost use Rattle.std.specs.Prelude.{◌≡◌};
+ghost use Rattle.std.specs.Prelude.{◌≡◌, fold};
 ghost use Rattle.otel_model.specs.Machine.{instrument_after_record};
 ghost use Rattle.opentelemetry_sdk.specs.Correspondence.{number_of};
 
@@ -33,5 +33,14 @@ impl Instrument {
     {
         self.count = self.count.wrapping_add(1);
         self.sum = self.sum.wrapping_add(bits_of(value));
+    }
+
+    /// Counts a record of each of these values.
+    pub(crate) fn accept_each(&mut self, values: &[NumberValue])
+        ensures { self.new ≡ fold (λ i v. instrument_after_record (number_of v).amount i) self.old values.now }
+    {
+        for value in values {
+            self.accept(*value);
+        }
     }
 }

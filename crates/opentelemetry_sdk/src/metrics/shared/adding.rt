@@ -75,6 +75,18 @@ impl<C: Account, S: Account> Worker<C, S> {
     {
         self.waiting.reserve(additional)
     }
+
+    /// Puts the records that wait together by series, which `Locked::submit` otherwise does under the lock. Call it right
+    /// before the lock is taken, once the list is complete: a record that is added later is left out, and one of a new
+    /// series undoes it. Takes memory for a copy of the values; if that is refused, or few records wait for their series,
+    /// nothing is done.
+    pub fn group(&mut self)
+        ensures waiting { waits_of self.new ≡ waits_of self.old }
+        ensures kept { (records_of self.new ≡ records_of self.old) × (values_of self.new ≡ values_of self.old) × (worker_identity self.new ≡ worker_identity self.old) }
+        ensures names { worker_number self.new ≡ worker_number self.old }
+    {
+        self.waiting.group();
+    }
 }
 
 /// Records of instruments and handles as values (Metrics API, "Synchronous Instrument API").

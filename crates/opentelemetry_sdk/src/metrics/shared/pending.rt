@@ -63,6 +63,14 @@ pub(crate) enum WaitingRecord {
 }
 
 impl WaitingRecord {
+    /// The place of its series, unless it is through a handle.
+    pub(crate) fn place(self) -> Option<usize> {
+        match self {
+            WaitingRecord::Plain { place, .. } => Some(place),
+            WaitingRecord::Bound { .. } => None,
+        }
+    }
+
     /// The 64 bits of the value.
     pub(crate) fn bits(self) -> u64
         ensures { (ss : List Series) → result ≡ bits_in (record_in ss self) }
@@ -73,13 +81,4 @@ impl WaitingRecord {
             ),
         }
     }
-}
-
-/// A record of a series that waits: where the series stands among those that its worker knows, and what makes the record.
-#[derive(Clone, Copy)]
-pub(crate) struct ListedRecord<'a> {
-    pub(crate) place: usize,
-    pub(crate) instrument: usize,
-    pub(crate) attributes: &'a OwnedSet,
-    pub(crate) value: NumberValue,
 }

@@ -1,14 +1,17 @@
 //! The list of a worker.
 
 ghost use Rattle.std.specs.Prelude.{◌≡◌, ◌≤◌, ◌<◌, ◌+◌, ◌++◌, ◌∷◌, ◌⊎◌, [], ℕ, Contains, Err, slice_get, None, Some, IsSome, IsOk, IfOk, OnOk, OnErr, IfSome, IfNone, get_or, IsOkUnless, drop, length, map, position};
+ghost use Rattle.std.specs.List.{AllByRecursion as EachOf};
 ghost use Rattle.opentelemetry_sdk.specs.Correspondence.{call_of};
+ghost use Rattle.opentelemetry_sdk.specs.Groups.{AreGrouped};
 ghost use Rattle.opentelemetry_sdk.specs.Pending.{bits_in, call_in};
 ghost use Rattle.opentelemetry_sdk.specs.Series.{series, series_eq};
 ghost use Rattle.opentelemetry_sdk.specs.Waiting.{HasSeries, KeepsSeries, lent_record, record_in, series_placed};
 
 use crate::calls::Call;
 use crate::calls::record_attributes::SharedAttributes;
-use crate::metrics::shared::pending::{LentRecord, ListedRecord, PendingRecord, WaitingRecord};
+use crate::metrics::shared::groups::Groups;
+use crate::metrics::shared::pending::{LentRecord, PendingRecord, WaitingRecord};
 use crate::metrics::shared::series::{Series, SeriesQuery};
 use indexmap::IndexMap;
 use otel_aggregate::value_map::hashed_key::OwnedSet;
@@ -23,6 +26,9 @@ use std::marker::Model;
 /// another one.
 pub const MOST_SERIES: usize = 1000;
 
+/// Fewer records than this are made one by one.
+pub(crate) const FEW: usize = 8;
+
 /// The series that a worker knows, and the records that wait.
 #[derive(Drop)]
 pub(crate) struct Waiting {
@@ -34,13 +40,16 @@ pub(crate) struct Waiting {
     records: Vec<WaitingRecord>,
     /// How many records at the front are made.
     made: usize,
+    /// The first records that wait, put together by series, if that was asked for and they are still these.
+    groups: Option<Groups>,
 }
 
 impl Model for Waiting {
-    ghost use Rattle.std.specs.Prelude.{◌-◌, ◌≤◌, length, map, drop};
+    ghost use Rattle.std.specs.Prelude.{◌-◌, ◌≤◌, IfSome, length, map, drop};
     ghost use Rattle.std.specs.List.{AllByRecursion};
     ghost use Rattle.std.specs.Vec.{vec_capacity};
     ghost use Rattle.indexmap.specs.IndexMap.{keys};
+    ghost use Rattle.opentelemetry_sdk.specs.Groups.{AreGrouped};
     ghost use Rattle.opentelemetry_sdk.specs.Series.{IsListOf};
     ghost use Rattle.opentelemetry_sdk.specs.Waiting.{Waits, HasSeries, record_in};
 
@@ -53,7 +62,12 @@ impl Model for Waiting {
       room = vec_capacity w.records - length w.records.items;
     } };
 
-    ghost invariant = { λ w. (w.made ≤ length w.records.items) × AllByRecursion (HasSeries (length (keys w.series))) w.records.items × AllByRecursion IsListOf w.series.entries };
+    ghost invariant = { λ w. (w.made ≤ length w.records.items) × AllByRecursion (HasSeries (length (keys w.series))) w.records.items × AllByRecursion IsListOf w.series.entries × IfSome w.groups (AreGrouped (record {
+      emptied = w.emptied;
+      series = keys w.series;
+      records = map (record_in (keys w.series)) (drop w.made w.records.items);
+      room = vec_capacity w.records - length w.records.items;
+    })) };
 }
 
 impl Waiting {
@@ -66,6 +80,7 @@ impl Waiting {
             series: IndexMap::with_hasher(alloc, hasher),
             records: Vec::new(alloc),
             made: 0,
+            groups: None,
         }
     }
 
@@ -101,57 +116,90 @@ impl Waiting {
         self.series.len()
     }
 
-    /// How many records wait before the first one through a handle; 0 if one that isn't through a handle was just made.
+    /// How many records wait before the first one through a handle. Where the last one that was made isn't through a
+    /// handle, it answers 0 but once in so many records as there are series, so that little time goes into counting. Where
+    /// the first records are put together, it answers how many these are.
     pub(crate) fn count_listed(&self) -> usize {
-        if self.made > 0 && matches!(self.records[self.made - 1], WaitingRecord::Plain { .. }) {
+        if let Some(groups) = self.groups() {
+            return groups.records();
+        }
+        let turn = self.series.len().max(FEW);
+        if self.made % turn > 0
+            && matches!(self.records[self.made - 1], WaitingRecord::Plain { .. })
+        {
             return 0;
         }
-        self.records[self.made..]
+        self.count_plain()
+    }
+
+    /// How many records wait before the first one through a handle.
+    fn count_plain(&self) -> usize {
+        self.as_slice()
             .iter()
             .take_while(|record| matches!(record, WaitingRecord::Plain { .. }))
             .count()
     }
 
-    /// How many of the first records that wait, up to this many, are of each series, by the places of the series.
-    pub(crate) fn counts(&self, alloc: Global, most: usize) -> Result<Vec<u32>, AllocError> {
-        let mut counts = Vec::from_elem(alloc, 0, self.series.len())?;
-        for record in self.records[self.made..].iter().take(most) {
-            if let WaitingRecord::Plain { place, .. } = *record {
-                if let Some(count) = counts.get_mut(place) {
-                    let more: u32 = *count;
-                    *count = more.saturating_add(1);
-                }
+    /// Whether this many records seem to be few for their series, so that they are made one by one: there are fewer than two
+    /// for each series that is known, and among the first ones few are of a series that came before.
+    pub(crate) fn are_few(&self, records: usize) -> bool {
+        let series = self.count_series();
+        if records < FEW.max(series / FEW) {
+            return true;
+        }
+        records / 2 < series && self.count_repeated() < FEW / 2
+    }
+
+    /// How many of the first records that wait, of twice `FEW`, are of the series of an earlier one.
+    fn count_repeated(&self) -> usize {
+        let records = self.as_slice();
+        let mut repeated: usize = 0;
+        for number in 1..records.len().min(2 * FEW) {
+            let place = records[number].place();
+            let mut earlier = records.iter().take(number);
+            if earlier.any(|record| record.place() == place) {
+                repeated = repeated.saturating_add(1);
             }
         }
-        Ok(counts)
+        repeated
     }
 
-    /// The record with this number among those that wait, if there is one and it is of a series.
-    #[inline(always)]
-    pub(crate) fn listed(&self, number: usize) -> Option<ListedRecord<'_>>
-        ensures there { IfSome result (λ r. (r.place < length self.now.series) × (get_or self.now.series r.place (series 0 []) ≡ series r.instrument r.attributes.now)) }
-        ensures record { IfSome result (λ r. slice_get self.now.records number ≡ Some (PendingRecord.Plain r.instrument r.value r.attributes.now)) }
+    /// Puts the records before the first one through a handle together by series, unless they are few or that isn't
+    /// possible.
+    pub(crate) fn group(&mut self)
+        ensures { self.new ≡ self.old }
     {
-        let number = self.made.checked_add(number)?;
-        let WaitingRecord::Plain { place, value } = *self.records.get(number)? else {
-            return None;
-        };
-        let (series, _) = self.series.get_index(place)?;
-        Some(ListedRecord {
-            place,
-            instrument: series.instrument,
-            attributes: &series.attributes,
-            value,
-        })
+        let most = self.count_plain();
+        let mut groups = None;
+        if !self.are_few(most) {
+            groups = Groups::new(*self.records.allocator(), self, most);
+        }
+        self.groups = groups;
     }
 
-    /// The instrument of the series at this place.
-    pub(crate) fn instrument(&self, place: usize) -> usize
+    /// The first records that wait, put together by series, if that was asked for and they are still these.
+    pub(crate) fn groups(&self) -> Option<&Groups>
+        ensures { IfSome result (λ g. AreGrouped self.now g.now) }
+    {
+        self.groups.as_ref()
+    }
+
+    /// The records that wait, as the worker keeps them.
+    #[inline(always)]
+    pub(crate) fn as_slice(&self) -> &[WaitingRecord]
+        ensures records { map (record_in self.now.series) result.now ≡ self.now.records }
+        ensures series { EachOf (HasSeries (length self.now.series)) result.now }
+    {
+        &self.records[self.made..]
+    }
+
+    /// The series at this place.
+    pub(crate) fn series(&self, place: usize) -> &Series
         requires { place < length self.now.series }
-        ensures { result ≡ (get_or self.now.series place (series 0 [])).instrument }
+        ensures { result.now ≡ get_or self.now.series place (series 0 []) }
     {
         let (series, _) = self.series.get_index(place).unwrap();
-        series.instrument
+        series
     }
 
     /// Lets the first record that waits go, and returns the 64 bits of its value.
@@ -163,6 +211,7 @@ impl Waiting {
     {
         let first = self.records[self.made];
         self.made += 1;
+        self.groups = None;
         first.bits()
     }
 
@@ -175,6 +224,7 @@ impl Waiting {
     {
         let first = *self.records.get(self.made)?;
         self.made += 1;
+        self.groups = None;
         match first {
             WaitingRecord::Plain { place, value } => {
                 let instrument = self.series.get_index(place)?.0.instrument;
@@ -200,6 +250,7 @@ impl Waiting {
             self.records.rotate_left(self.made);
             self.records.truncate(waiting);
             self.made = 0;
+            self.groups = None;
         }
     }
 
@@ -264,6 +315,7 @@ impl Waiting {
             self.series = IndexMap::with_hasher(*self.series.allocator(), *self.series.hasher());
             self.records.clear();
             self.made = 0;
+            self.groups = None;
         }
     }
 
@@ -277,6 +329,7 @@ impl Waiting {
         ensures series { KeepsSeries self.old self.new }
     {
         self.forget_many();
+        self.groups = None;
         let place = self.series.len();
         let (attributes, shared) = SharedAttributes::new(attributes)?;
         let series = Series {

@@ -31,15 +31,16 @@ module _ (c : Joined-insert-2) where
   added : keys c.insert.new.self ≡ keys c.self.inside.series ++ new ∷ []
   added = ap (λ (es : List (Series × SharedAttributes)). map (λ e. e.0) es) pushed ∙ map-append (λ (e : Series × SharedAttributes). e.0) c.self.inside.series.entries ((new, c.in_ok-attributes.shared) ∷ [])
 
-pub invariant_of-self : goal.invariant_of-self
-invariant_of-self c = (
+pub invariant_of-self-in-Ok : goal.invariant_of-self-in-Ok
+invariant_of-self-in-Ok c = (
   c.self.invariant.0,
   rw (added c, length_push (keys c.self.inside.series) (new c)) (has-grown (length (keys c.self.inside.series)) c.self.inside.records.items c.self.invariant.1),
   subst (AllByRecursion IsListOf) (sym (pushed c)) (each_push IsListOf c.self.inside.series.entries (new c, c.in_ok-attributes.shared) c.self.invariant.2 c.in_ok-attributes.ensures.list.1),
+  tt,
 )
 
 pub invariant_of-self-2 : goal.invariant_of-self-2
-invariant_of-self-2 c = rw (c.in-Err.ensures.err) c.self.invariant
+invariant_of-self-2 c = rw (c.in-Err.ensures.err) (c.self.invariant.0, c.self.invariant.1, c.self.invariant.2, tt)
 
 pub returns-in-Ok-clause-placed : goal.returns-in-Ok-clause-placed
 returns-in-Ok-clause-placed c =
