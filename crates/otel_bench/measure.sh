@@ -193,7 +193,7 @@ case_named() {
     esac
     case $1 in
         *_submit) counted=counted_submit ;;
-        *) counted="counted_calls counted_adds counted_bound_adds counted_worker_adds counted_worker_records counted_worker_series_adds counted_worker_bound_adds counted_submit counted_expositions counted_lines" ;;
+        *) counted="counted_calls counted_adds counted_bound_adds counted_worker_adds counted_worker_records counted_worker_series_adds counted_worker_bound_adds counted_group counted_submit counted_expositions counted_lines" ;;
     esac
     case ${1#typed_} in
         known0) known $counter - - "$one" ;;

@@ -128,6 +128,9 @@ pub trait Recorder: Drop {
     /// Adds a record of 1 through a handle to the list.
     fn add_one_through(&mut self, handle: &Bound<u64>);
 
+    /// Puts the records of the list together by series.
+    fn group_list(&mut self);
+
     /// How many records were accepted.
     fn accepted(&self) -> u64;
 }
@@ -163,6 +166,11 @@ impl<C: Account, S: Account> Recorder for Worker<C, S> {
     #[inline(always)]
     fn add_one_through(&mut self, handle: &Bound<u64>) {
         let _ = self.add_through(handle, 1);
+    }
+
+    #[inline(always)]
+    fn group_list(&mut self) {
+        self.group();
     }
 
     fn accepted(&self) -> u64 {

@@ -45,6 +45,7 @@ fn hand_in_batches<W: Recorder, S: Shared<W>, R: Wait>(
     };
     for batch in 0..batches {
         let _ = add_batch(alloc, &mut worker, work, names.as_slice(), batch);
+        worker.group_list();
         let _ = shared.lock(rt).hand_in(&mut worker);
     }
     worker.accepted()

@@ -74,6 +74,13 @@ fn counted_worker_bound_adds<W: Recorder>(worker: &mut W, handles: &[Handle], ro
     }
 }
 
+/// Puts the records of a worker's list together by series, before the lock is taken. It is counted as
+/// `counted_worker_adds` is.
+#[inline(never)]
+fn counted_group<W: Recorder>(worker: &mut W) {
+    worker.group_list();
+}
+
 /// Hands in what is in a worker's list. It is counted as `counted_worker_adds` is.
 #[inline(never)]
 fn counted_submit<W: Recorder, S: Shared<W>>(shared: &mut S, worker: &mut W) -> bool {
@@ -146,6 +153,7 @@ fn batches_by_one<W: Recorder, S: Shared<W>>(
     let names = names_of(alloc, &mut worker, &work.target)?;
     for batch in 0..times {
         add_batch(alloc, &mut worker, work, names.as_slice(), batch)?;
+        counted_group(&mut worker);
         let _ = counted_submit(shared, &mut worker);
     }
     Ok(worker.accepted())

@@ -75,6 +75,9 @@ fn submit<P: Parts, C: Account, S: Account>(
     replies: &mut Vec<Reply>,
 ) -> Result<bool, Fault> {
     let before = worker.submitted();
+    if before % 2 == 0 {
+        worker.group();
+    }
     let answer = locked.submit(worker);
     for _ in before..worker.submitted() {
         replies.push(Reply::Done)?;
@@ -340,6 +343,47 @@ const BATCHES: &[Case] = &[
                 ok\n\
                 collected 1\n\
                 point m g gauge 100 300 a=i:1,b=i:2,c=i:3,d=i:4 -17\n",
+    },
+    // Two sets whose records go to the overflow point: it has the last value of the batch, which is of the set that comes
+    // first there.
+    Case {
+        name: "last_values_of_one_point",
+        script: "reader cumulative limit=1\n\
+                 go\n\
+                 meter m\n\
+                 build 0 i64_gauge g 100\n\
+                 record 0 i:-3 b=i:1\n\
+                 record 0 i:-1 a=i:1\n\
+                 record 0 i:-2 a=i:2\n\
+                 collect 0 200\n\
+                 record 0 i:1 a=i:1\n\
+                 record 0 i:2 a=i:2\n\
+                 record 0 i:3 a=i:1\n\
+                 record 0 i:4 a=i:2\n\
+                 record 0 i:5 a=i:1\n\
+                 record 0 i:6 a=i:2\n\
+                 record 0 i:7 a=i:2\n\
+                 record 0 i:8 a=i:1\n\
+                 collect 0 300\n",
+        lines: "meter 0\n\
+                instrument 0\n\
+                ok\n\
+                ok\n\
+                ok\n\
+                collected 2\n\
+                point m g gauge 100 200 b=i:1 -3\n\
+                point m g gauge 100 200 otel.metric.overflow=b:true -2\n\
+                ok\n\
+                ok\n\
+                ok\n\
+                ok\n\
+                ok\n\
+                ok\n\
+                ok\n\
+                ok\n\
+                collected 2\n\
+                point m g gauge 100 300 b=i:1 -3\n\
+                point m g gauge 100 300 otel.metric.overflow=b:true 8\n",
     },
     // Twelve records of one series at two readers. The delta reader starts again: nothing of the batch is left there.
     Case {
