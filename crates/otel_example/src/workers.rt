@@ -42,6 +42,7 @@ fn count_requests<P: Parts, C: Account, S: Account, R: Wait>(
     for path in &["/cart", "/", "/cart"] {
         let _ = add_request(alloc, requests, &mut worker, path);
     }
+    worker.group();
     let _ = shared.lock(rt).submit(&mut worker);
     worker
 }
