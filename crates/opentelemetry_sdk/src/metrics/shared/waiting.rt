@@ -123,10 +123,9 @@ impl Waiting {
         if let Some(groups) = self.groups() {
             return groups.records();
         }
-        let turn = self.series.len().max(FEW);
-        if self.made % turn > 0
-            && matches!(self.records[self.made - 1], WaitingRecord::Plain { .. })
-        {
+        let listed = self.made > 0
+            && matches!(self.records[self.made - 1], WaitingRecord::Plain { .. });
+        if listed && self.made % self.series.len().max(FEW) > 0 {
             return 0;
         }
         self.count_plain()
