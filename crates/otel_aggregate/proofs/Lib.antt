@@ -2,7 +2,6 @@ pub mod All
 pub mod HandleLemmas
 pub mod LinkLemmas
 pub mod PlaceLemmas
-pub mod RepeatLemmas
 pub mod StepLemmas
 pub mod ObservedLemmas
 pub mod KeptLemmas

@@ -132,32 +132,6 @@ used-measured m s v = λ i. record (used-placed m s i) { table = at_entry (used-
 pub used-held : (m : MapState) (s : AttributeSet) → bound_map (bound_to s m) m ≡ bound_map s m
 used-held m s = λ i. record (used-placed m s i) { table = at_entry (used-own m s i) take_handle (used-placed m s i).table }
 
--- ======== a record of a set whose entry is there ========
-counted-written : (g : AttributeSet) (v : Sample) (es : List Entry) → number_counted (map (on g (write v)) es) ≡ number_counted es
-counted-written g v [] = refl
-counted-written g v (e ∷ es) =
-    let one : (on g (write v) e).counted ≡ e.counted = cond_both (is_of g e) (write v e) e (λ (x : Entry). x.counted ≡ e.counted) (λ q. refl) (λ q. refl) in
-    counted_cons (on g (write v) e) (map (on g (write v)) es) ∙ (λ i. cond (one i) 1 0 + counted-written g v es i) ∙ sym (counted_cons e es)
-
-module _ (m : MapState) (s : AttributeSet) (v : Sample) (there : is_placed (bound_to s m) m.table.entries ≡ true) where
-  written : measured_map s v m ≡ record m { table = at_entry (bound_to s m) (write v) m.table }
-  written = sym (used-measured m s v) ∙ measured-by m (bound_to s m) v (bound_to s m) (place-there m.limit m.empty (bound_to s m) m.table.entries there)
-
-  -- it is there still
-  pub there-still : is_placed (bound_to s m) (measured_map s v m).table.entries ≡ true
-  there-still =
-      ap (λ (x : MapState). is_placed (bound_to s m) x.table.entries) written
-      ∙ ap (λ b. set_eq (bound_to s m) none_set || b) (has-on (write v) (λ e. refl) (bound_to s m) (bound_to s m) m.table.entries)
-      ∙ there
-
-  -- and the set uses it still
-  pub bound-still : bound_to s (measured_map s v m) ≡ bound_to s m
-  bound-still =
-      sym (used-bound (measured_map s v m) s)
-      ∙ ap (λ (x : MapState). used_by (nat_lt (number_counted x.table.entries) x.limit) s x.table.entries) written
-      ∙ (λ i. cond ((set_eq s none_set || has-on (write v) (λ e. refl) (bound_to s m) s m.table.entries i) || nat_lt (counted-written (bound_to s m) v m.table.entries i) m.limit) s over_set)
-      ∙ used-bound m s
-
 -- ======== what is prepared ========
 pub sound-nothing : (t : Slotted) (few room : Bool) (p : Pending) → p ≡ Nothing → IsSound t few room p
 sound-nothing t few room p is = subst (IsSound t few room) (sym is) tt

@@ -241,7 +241,7 @@ impl<C: Account, S: Account> Booked<C, S> {
         self.core.collect(reader, now, observations)
     }
 
-    /// Makes the records of a worker, in order, up to the first that is refused. Frees none.
+    /// Makes the records of a worker, in order, up to the first that is refused.
     pub(crate) fn submit(&mut self, worker: &mut Worker<C, S>) -> Result<Receipt, Fault>
         ensures grew { (records_of worker.old ≤ records_of worker.new) × (values_of worker.old ≤ values_of worker.new) }
         ensures made { Submits self.old.core.state (pending_of worker.old) self.new.core.state (pending_of worker.new) (records_of worker.new - records_of worker.old) (values_of worker.new - values_of worker.old) }

@@ -191,9 +191,10 @@ impl<P: Parts, C: Account, S: Account> Locked<P, C, S> {
     }
 
     /// Makes the records of a worker, in order, up to the first that is refused. Those that are made leave the list;
-    /// the others stay, in order. It frees nothing, and the worker goes on to know its series.
+    /// the others stay, in order. The worker goes on to know its series.
     ///
-    /// Each costs what it costs as a step of a provider. With nothing in the list it is never refused. Before each
+    /// Series of which several records wait, and which all streams know, are looked up twice and written at once
+    /// (`Worker::group`); any other record costs what it costs as a step of a provider. With nothing in the list it is never refused. Before each
     /// record, it is refused with `LedgerFull` if the book has 2^64 - 1 records, otherwise with the fault of the
     /// record, which changes nothing. A record through a handle, one without attributes, or one that makes no entry in
     /// a stream of its instrument (`known`) is never refused for want of memory.
