@@ -2,8 +2,7 @@ pub mod AcceptedSteps
 pub mod Asked
 pub mod Collects
 pub mod Full
-pub mod Grouped
-pub mod GroupsLemmas
+pub mod Grouping
 pub mod Headlines
 pub mod Held
 pub mod Identities

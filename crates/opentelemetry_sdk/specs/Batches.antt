@@ -1,20 +1,15 @@
 -- Records of series that all streams know, which are made series by series.
-use Rattle.std.specs.Prelude.{◌≡◌, ℕ, List, [], slice_get, get_or, true, None}
+use Rattle.std.specs.Prelude.{◌≡◌, ℕ, List, slice_get, true, None}
 use Rattle.std.specs.List.{AllByRecursion as EachOf}
 use Rattle.otel_data.specs.declared.numbers.NumberValue.{NumberValue}
 use Rattle.otel_model.specs.Places.{HasPlaces}
 use Rattle.otel_model.specs.Refusals.{record_refusal}
 use Rattle.otel_model.specs.State.{InstrumentState, ReaderPart, State}
 use Rattle.opentelemetry_sdk.specs.Correspondence.{number_of}
-use Rattle.opentelemetry_sdk.specs.Groups.{listed_at}
+use Rattle.opentelemetry_sdk.specs.Groups.{listed_at, series_at}
 use Rattle.opentelemetry_sdk.specs.Known.{is_known}
-use Rattle.opentelemetry_sdk.specs.Series.{series}
 use Rattle.opentelemetry_sdk.specs.States.{IsSound}
 use Rattle.opentelemetry_sdk.specs.declared.metrics.shared.series.Series.{Series}
-
--- the series at this place among those that a worker knows
-abbrev pub series_at : List Series → ℕ → Series
-series_at ss n = get_or ss n (series 0 [])
 
 -- in this state of a provider the readers have these parts, and the instruments are these
 pub record IsIn (st : State) (ps : List ReaderPart) (is : List InstrumentState) : Type 0 where

@@ -10,7 +10,7 @@ ghost use Rattle.opentelemetry_sdk.specs.pipeline.Handles.{AreObservableFor, Sta
 ghost use Rattle.opentelemetry_sdk.specs.pipeline.Known.{is_known_at};
 ghost use Rattle.opentelemetry_sdk.specs.pipeline.Observations.{AreTypedFor, observed_of};
 ghost use Rattle.opentelemetry_sdk.specs.pipeline.Pipelines.{part_of, part_after_each, has_stream_at, number_of, FeedsType, IsLawful, IsReadyFor};
-ghost use Rattle.otel_aggregate.specs.Any.{is_signed_value};
+ghost use Rattle.otel_aggregate.specs.Any.{is_signed_value, HaveOneType};
 
 use crate::pipeline::about::About;
 use crate::pipeline::change::Change;
@@ -205,14 +205,15 @@ impl Pipeline {
 
     /// Takes in records of these values with the attributes in the streams that the instrument feeds, if they all know the
     /// attributes, and answers whether they do. If one doesn't, others may have taken the records in; without values nothing
-    /// changes. Hashes the attributes once if several streams look them up.
+    /// changes.
     pub fn record_known(
         &mut self,
         instrument: usize,
         values: &[NumberValue],
         attributes: &GivenAttributes,
     ) -> bool
-        requires { EachOf (λ v. FeedsType instrument (is_signed_value v) (part_of self.old)) values.now }
+        requires typed { EachOf (λ v. FeedsType instrument (is_signed_value v) (part_of self.old)) values.now }
+        requires alike { HaveOneType values.now }
         ensures told { result ≡ is_known_at instrument attributes.now (part_of self.old) }
         ensures placed { result ≡ true → EachOf (IsPlaced (part_of self.old).feeds (Listed instrument attributes.now)) (part_of self.old).streams }
         ensures made { result ≡ true → part_of self.new ≡ part_after_each instrument values.now attributes.now (part_of self.old) }
@@ -220,8 +221,7 @@ impl Pipeline {
     {
         self.law_of_identities();
         let feeds = streams_fed(&self.feeds, instrument);
-        let given = attributes.hashed_for(feeds.len(), self.hasher);
-        record_known_each(&mut self.streams, feeds, values, &given)
+        record_known_each(&mut self.streams, feeds, values, attributes)
     }
 
     /// Takes in what was observed, and makes a collection at the moment `now`, in nanoseconds since 1970, for the

@@ -2,6 +2,8 @@ pub mod All
 pub mod HandleLemmas
 pub mod LinkLemmas
 pub mod PlaceLemmas
+pub mod EachLemmas
+pub mod SpreadLemmas
 pub mod StepLemmas
 pub mod ObservedLemmas
 pub mod KeptLemmas

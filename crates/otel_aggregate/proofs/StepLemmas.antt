@@ -1,9 +1,11 @@
 -- What a map's steps leave of what is known of its handles.
-use Rattle.std.proofs.Common.{◌≡◌, ℕ, Bool, true, false, cond, not, ◌&&◌, ◌||◌, ◌+◌, List, [], ◌∷◌, ◌++◌, Option, Some, None, Result, Ok, Err, ◌⊎◌, inl, inr, is_some, refl, sym, ap, subst, ◌∙◌, nat_eq, true≢false}
+use Rattle.std.proofs.Common.{◌≡◌, ℕ, Bool, true, false, cond, not, ◌&&◌, ◌||◌, ◌+◌, List, [], ◌∷◌, ◌++◌, fold, Option, Some, None, Result, Ok, Err, ◌⊎◌, inl, inr, is_some, refl, sym, ap, subst, ◌∙◌, nat_eq, true≢false}
 use Rattle.std.specs.Prelude.{IsSome, OnOk, OnErr, is_none, ◌==◌}
-use Rattle.std.specs.List.{AllByRecursion}
+use Rattle.std.specs.Bool.{beq}
+use Rattle.std.specs.List.{AllByRecursion, list_all}
 use Rattle.std.specs.Map.{lookup}
 use Rattle.std.specs.Option.{option_map}
+use Rattle.std.proofs.lemmas.Bool.{and_parts}
 use Rattle.std.proofs.lemmas.List.{map-append}
 use Rattle.otel_common.specs.Canonical.{canon}
 use Rattle.otel_common.specs.Equality.{set_eq}
@@ -18,14 +20,14 @@ use Rattle.otel_model_stream.specs.Totals.{size, points_total}
 use Rattle.otel_aggregate.specs.value_map.Contents.{MapContents, known_of}
 use Rattle.otel_aggregate.specs.value_map.Numbers.{Numbers, number_of, set_named, is_placed, KeepNumbers, AreNamed, AreNumbered}
 use Rattle.otel_aggregate.specs.Links.{Link, Linked, handle_of, handles_of, IsLinked, AreHeld}
-use Rattle.otel_aggregate.specs.Any.{amount_of, any_after_collection, form_of, observed_in, with_observed}
+use Rattle.otel_aggregate.specs.Any.{amount_of, any_after_collection, any_after_commits, form_of, is_signed_value, observed_in, samples_of, with_observed, HaveOneType}
 use Rattle.otel_aggregate.specs.Kept.{IsKeptMap, IsKeptStream, IsWithin}
 use Rattle.otel_aggregate.specs.Observed.{drained_at}
 use Rattle.otel_aggregate.specs.Streams.{AggregateContents, points_now, recorded_set, recorded_attributes, taken_from, stream_after_commit, bind_of, stream_after_bind, update_at, stream_after_update, unbind_at, stream_after_unbind}
 use Rattle.otel_aggregate.proofs.All.{all-append}
 use Rattle.otel_aggregate.proofs.KeptLemmas.{kept-placed, kept-updated, reported-same}
 use Rattle.otel_aggregate.proofs.ObservedLemmas.{drained-updated}
-use Rattle.otel_aggregate.proofs.LinkLemmas.{LeadStill, lead-kept, held-linked}
+use Rattle.otel_aggregate.proofs.LinkLemmas.{LeadStill, lead-kept, lead-same, held-linked}
 use Rattle.otel_aggregate.proofs.value_map.TableLemmas.{is_some-map}
 use Rattle.otel_aggregate.proofs.HandleLemmas.{has-on, held-written, held-taken, held-placed}
 
@@ -251,3 +253,63 @@ unbind-none {s} {old} was h after live pending found is same spent =
     (λ i. record s { state = record s.state { map_state = is i }; live = (same ∙ sym (without-none h s.live found)) i; pending = spent i })
     ∙ sym (λ i. record s { state = unbind_at (found i) s.state; live = without h s.live; pending = None })
     ∙ ap (stream_after_unbind h) was
+
+-- ======== records of several values ========
+-- the parts of a stream go together still if its handles have their numbers still
+pub stream-commits : {s now : AggregateContents} → s ≡ now → (x : AttributeSet) (values : List NumberValue) (was new : MapContents) (live : Linked) (reported : Option MapState) → AllByRecursion (λ value. IsWithin now.is_signed (amount_of value).wide) values
+    → new.state ≡ fold (λ (m : MapState) (v : Sample). measured_map x v m) was.state (samples_of s.state.aggregate values) → new.numbers ≡ was.numbers
+    → IsKeptStream s.is_signed (form_of s.state.aggregate) was live s.room reported → IsKeptStream s.is_signed (form_of s.state.aggregate) new live s.room reported
+stream-commits {s} {now} seen x values was new live reported within made numbers h =
+    subst (λ (ns : Numbers). IsKeptStream s.is_signed (form_of s.state.aggregate) (record was { state = new.state; numbers = ns }) live s.room reported) (sym numbers)
+    (subst Kept (sym made) (each values was.state within h))
+  where
+    Kept : MapState → Type 0
+    Kept m = IsKeptStream s.is_signed (form_of s.state.aggregate) (record was { state = m }) live s.room reported
+
+    each : (vs : List NumberValue) (m : MapState) → AllByRecursion (λ value. IsWithin now.is_signed (amount_of value).wide) vs → Kept m → Kept (fold (λ (m : MapState) (v : Sample). measured_map x v m) m (samples_of s.state.aggregate vs))
+    each [] m all kept = kept
+    each (v ∷ vs) m all kept =
+        let w : Sample = sample_of s.state.aggregate (amount_of v) in
+        each vs (measured_map x w m) all.1
+        (stream-recorded seen v w (record was { state = m }) (record was { state = measured_map x w m }) live reported all.0 refl (inr (x, inl refl)) (lead-same was.numbers was.numbers refl live.entries kept.0) kept)
+
+-- a stream of the other number type doesn't change
+pub commits-none : (values : List NumberValue) (a : AggregateContents) → HaveOneType values → list_all (λ value. beq (is_signed_value value) a.is_signed) values ≡ false → a ≡ any_after_commits values a
+commits-none values a one e = by (beq one.0 a.is_signed) refl
+  where
+    all : (vs : List NumberValue) → AllByRecursion (λ value. is_signed_value value ≡ one.0) vs → beq one.0 a.is_signed ≡ true → list_all (λ value. beq (is_signed_value value) a.is_signed) vs ≡ true
+    all [] h q = refl
+    all (v ∷ vs) h q = λ i. (ap (λ b. beq b a.is_signed) h.0 ∙ q) i && all vs h.1 q i
+
+    none : (vs : List NumberValue) → AllByRecursion (λ value. is_signed_value value ≡ one.0) vs → beq one.0 a.is_signed ≡ false → a ≡ any_after_commits vs a
+    none [] h q = refl
+    none (v ∷ vs) h q =
+        none vs h.1 q
+        ∙ ap (any_after_commits vs) (sym (ap (λ b. record (cond b (stream_after_commit (amount_of v) a) a) { pending = a.pending }) (ap (λ b. beq b a.is_signed) h.0 ∙ q)))
+
+    by : (b : Bool) → beq one.0 a.is_signed ≡ b → a ≡ any_after_commits values a
+    by true q = absurd (true≢false (sym (all values one.1 q) ∙ e))
+    by false q = none values one.1 q
+
+-- and one of theirs takes them in
+commits-made : (x : AttributeSet) (values : List NumberValue) (a : AggregateContents) → a.pending ≡ Some x → list_all (λ value. beq (is_signed_value value) a.is_signed) values ≡ true
+    → record a {
+      state = record a.state {
+        map_state = fold (λ (m : MapState) (v : Sample). measured_map x v m) a.state.map_state (samples_of a.state.aggregate values);
+        recorded = fold (λ (n : ℕ) (value : NumberValue). wrap (n + size a.state.aggregate (amount_of value))) a.state.recorded values;
+      };
+    } ≡ any_after_commits values a
+commits-made x [] a e all = refl
+commits-made x (v ∷ vs) a e all =
+    let parts = and_parts (beq (is_signed_value v) a.is_signed) (list_all (λ value. beq (is_signed_value value) a.is_signed) vs) all in
+    commits-made x vs (record a { state = recorded_set x (amount_of v) a.state }) e parts.1
+    ∙ ap (any_after_commits vs) (sym ((λ i. record (cond (parts.0 i) (taken_from (e i) (amount_of v) a) a) { pending = a.pending })))
+
+pub commits-taken : {s old : AggregateContents} → s ≡ old → (x : AttributeSet) (values : List NumberValue) (after : MapState) (live : Handles) (pending : Option AttributeSet) (total : ℕ) → s.pending ≡ Some x
+    → list_all (λ value. beq (is_signed_value value) old.is_signed) values ≡ true → after ≡ fold (λ (m : MapState) (v : Sample). measured_map x v m) s.state.map_state (samples_of s.state.aggregate values) → live ≡ s.live → pending ≡ s.pending
+    → total ≡ fold (λ (n : ℕ) (value : NumberValue). wrap (n + size s.state.aggregate (amount_of value))) s.state.recorded values
+    → record s { state = record s.state { map_state = after; recorded = total }; live = live; pending = pending } ≡ any_after_commits values old
+commits-taken {s} {old} was x values after live pending total prepared typed is same kept counted =
+    (λ i. record s { state = record s.state { map_state = is i; recorded = counted i }; live = same i; pending = kept i })
+    ∙ commits-made x values s prepared (ap (λ (a : AggregateContents). list_all (λ value. beq (is_signed_value value) a.is_signed) values) was ∙ typed)
+    ∙ ap (any_after_commits values) was

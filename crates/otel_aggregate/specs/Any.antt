@@ -1,6 +1,7 @@
 -- A stream with any aggregate and either number type.
-use Rattle.std.specs.Prelude.{ℕ, ℤ, pos, ◌≡◌, Bool, true, false, not, cond, ◌&&◌, ◌||◌, is_some, List, [], None}
+use Rattle.std.specs.Prelude.{ℕ, ℤ, pos, ◌≡◌, Bool, true, false, not, cond, ◌&&◌, ◌||◌, is_some, List, [], map, fold, None}
 use Rattle.std.specs.Bool.{beq}
+use Rattle.std.specs.List.{AllByRecursion}
 use Rattle.std.specs.Int.{cast_unsigned, w64}
 use Rattle.otel_common.specs.declared.attributes.KeyValue.{KeyValue}
 use Rattle.otel_data.specs.declared.aggregated.AggregatedMetrics.{AggregatedMetrics}
@@ -10,7 +11,7 @@ use Rattle.otel_data.specs.declared.aggregated.MetricData.TheVariants as metric
 use Rattle.otel_data.specs.declared.numbers.NumberValue.{NumberValue}
 use Rattle.otel_data.specs.declared.numbers.NumberValue.TheVariants as number
 use Rattle.otel_model_stream.specs.Sets.{none_set}
-use Rattle.otel_model_stream.specs.Folds.{Aggregate, Sum, LastValue, Histogram, Amount}
+use Rattle.otel_model_stream.specs.Folds.{Aggregate, Sum, LastValue, Histogram, Amount, Sample, sample_of}
 use Rattle.otel_model_stream.specs.Entries.{Table}
 use Rattle.otel_model_stream.specs.Events.{held_by}
 use Rattle.otel_model_stream.specs.Data.{natural_of, signed_of}
@@ -51,10 +52,22 @@ abbrev pub amount_of : NumberValue → Amount
 amount_of (number.U64 n) = record { bits = n; wide = pos n }
 amount_of (number.I64 z) = record { bits = cast_unsigned w64 z; wide = z }
 
+-- all values are of one number type
+abbrev pub HaveOneType : List NumberValue → Type 0
+HaveOneType values = (is_signed : Bool) × AllByRecursion (λ (value : NumberValue). is_signed_value value ≡ is_signed) values
+
+-- the records that values make in this aggregate
+abbrev pub samples_of : Aggregate → List NumberValue → List Sample
+samples_of σ values = map (λ (value : NumberValue). sample_of σ (amount_of value)) values
+
 -- ======== records ========
 -- after the prepared record, if there is one, of a value; a stream of the other number type doesn't change
 abbrev pub any_after_commit : NumberValue → AggregateContents → AggregateContents
 any_after_commit value a = cond (beq (is_signed_value value) a.is_signed) (stream_after_commit (amount_of value) a) a
+
+-- after records of these values for what is prepared, which stays prepared
+abbrev pub any_after_commits : List NumberValue → AggregateContents → AggregateContents
+any_after_commits values a = fold (λ (b : AggregateContents) (value : NumberValue). record (any_after_commit value b) { pending = b.pending }) a values
 
 -- after a record of a value without attributes; a stream of the other number type doesn't change
 abbrev pub any_after_none : NumberValue → AggregateContents → AggregateContents

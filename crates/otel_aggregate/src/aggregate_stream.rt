@@ -1,13 +1,14 @@
 //! One stream of one reader, of any aggregate and either number type.
 
 ghost use Rattle.std.specs.Bool.{beq};
+ghost use Rattle.std.specs.List.{AllByRecursion, list_all};
 ghost use Rattle.std.specs.Prelude.{◌≡◌, [], true, false, cond, None, Some, IsTrue, OnOk, OnErr, IfOk, IsOk, IsOkUnless};
 ghost use Rattle.otel_common.specs.Temporalities.{resets};
 ghost use Rattle.otel_model_stream.specs.Sets.{AttributeSet, set_of};
 ghost use Rattle.otel_model_stream.specs.Folds.{Last};
 ghost use Rattle.otel_model_stream.specs.Machine.{without_none_handles};
 ghost use Rattle.otel_model_stream.specs.Maps.{new_map, bound_to};
-ghost use Rattle.otel_aggregate.specs.Any.{aggregate_of, is_monotonic_of, drains_of, amount_of, any_after_commit, any_after_none, any_after_record, is_signed_value, any_with_room, any_after_bind, any_after_update, is_updated, any_after_unbind, metrics_now, any_after_collection, draft_of, IsLike, with_draft};
+ghost use Rattle.otel_aggregate.specs.Any.{aggregate_of, is_monotonic_of, drains_of, amount_of, any_after_commit, any_after_commits, HaveOneType, any_after_none, any_after_record, is_signed_value, any_with_room, any_after_bind, any_after_update, is_updated, any_after_unbind, metrics_now, any_after_collection, draft_of, IsLike, with_draft};
 ghost use Rattle.otel_aggregate.specs.Kept.{IsWithin, state_of};
 ghost use Rattle.otel_aggregate.specs.Streams.{new_aggregate, is_known};
 ghost use Rattle.otel_aggregate.specs.value_map.Numbers.{is_placed};
@@ -216,6 +217,18 @@ impl AggregateStream {
         }
     }
 
+    /// Whether all these values have the stream's number type.
+    fn takes_each(&self, values: &[NumberValue]) -> bool
+        ensures told { result ≡ list_all (λ value. beq (is_signed_value value) self.now.is_signed) values.now }
+        ensures within { result ≡ true → AllByRecursion (λ value. IsWithin self.now.is_signed (amount_of value).wide) values.now }
+    {
+        let mut every = true;
+        for value in values {
+            every &= self.takes(*value);
+        }
+        every
+    }
+
     /// Takes in the prepared record, if there is one and the value has the stream's number type. This is the second
     /// phase; it takes no memory, and looks nothing up for a set that has an entry.
     #[inline(always)]
@@ -240,19 +253,18 @@ impl AggregateStream {
         self.map.has_entry()
     }
 
-    /// Takes in a record for what is prepared, whose entry is there already, if the value has the stream's number type,
-    /// and keeps it prepared. Takes no memory, and looks nothing up.
-    #[inline(always)]
-    pub fn commit_kept(&mut self, value: NumberValue)
-        requires { (s : AttributeSet) × (self.old.pending ≡ Some s) × (is_placed s self.old.state.map_state.table.entries ≡ true) }
-        ensures taken { self.new ≡ record (any_after_commit value self.old) { pending = self.old.pending } }
+    /// Takes in the records of these values, which have one number type, for what is prepared, whose entry is there
+    /// already, if that is the stream's number type, and keeps it prepared. Takes no memory, and looks nothing up.
+    pub fn commit_each(&mut self, values: &[NumberValue])
+        requires there { (s : AttributeSet) × (self.old.pending ≡ Some s) × (is_placed s self.old.state.map_state.table.entries ≡ true) }
+        requires alike { HaveOneType values.now }
+        ensures taken { self.new ≡ any_after_commits values.now self.old }
     {
-        if !self.takes(value) {
+        if !self.takes_each(values) {
             return;
         }
-        let record = self.settings.record(value);
-        self.map.commit_kept(record);
-        self.recorded = self.settings.counted(value, self.recorded);
+        self.map.commit_each(&self.settings, values);
+        self.recorded = self.settings.counted_each(values, self.recorded);
     }
 
     /// Takes in a record with these attributes, in place of one that was prepared, if the value has the stream's number

@@ -1,14 +1,16 @@
 //! What is kept of the records of one set of attributes, whatever the aggregate.
 
-ghost use Rattle.std.specs.Prelude.{◌≡◌, refl};
-ghost use Rattle.otel_model_stream.specs.Folds.{record_spread, clear_fold_no_spread};
+ghost use Rattle.std.specs.Prelude.{◌≡◌, cond, fold, refl};
+ghost use Rattle.otel_model_stream.specs.Folds.{record_fold, record_spread, clear_fold_no_spread};
 ghost use Rattle.otel_model_stream.specs.Totals.{value_of};
-ghost use Rattle.otel_aggregate.specs.AnyKept.{spread_in, fold_in, empty_for, sample_in};
+ghost use Rattle.otel_aggregate.specs.Any.{aggregate_of, samples_of};
+ghost use Rattle.otel_aggregate.specs.AnyKept.{spread_in, fold_in, empty_for, sample_in, least_with, greatest_with};
 ghost use Rattle.otel_aggregate.specs.declared.any_aggregator.AnyConfig.TheVariants as config;
 
 use crate::aggregators::aggregator::Aggregator;
-use crate::aggregators::buckets::{Buckets, BucketsConfig};
-use crate::values::{bits_of, wide_of};
+use crate::aggregators::buckets::{Buckets, BucketsConfig, count_each};
+use crate::settings::AnySettings;
+use crate::values::{bits_of, range_of, sum_of, wide_of};
 use otel_common::faults::Fault;
 use otel_data::numbers::NumberValue;
 use std::alloc::Global;
@@ -61,9 +63,58 @@ impl AnyBuckets {
             self.greatest = Some(self.greatest.map_or(wide, |greatest| greatest.max(wide)));
         }
     }
+
+    /// Takes in records of these values, one after another.
+    #[inline(never)]
+    fn update_each(&mut self, settings: &AnySettings, values: &[NumberValue])
+        ensures { spread_in self.new ≡ fold record_spread (spread_in self.old) (samples_of (aggregate_of settings.now) values.now) }
+    {
+        let totals = &mut self.buckets;
+        totals.count = totals.count.wrapping_add(values.len() as u64);
+        if totals.has_sum {
+            totals.sum = sum_of(values, totals.sum);
+        }
+        count_each(&mut totals.counts, settings.bounds(), values);
+        self.update_range(values);
+    }
+
+    /// Takes these values into the least and the greatest, if these are kept.
+    fn update_range(&mut self, values: &[NumberValue])
+        ensures { self.new ≡ record self.old {
+          least = cond self.old.has_min_max (least_with self.old.least values.now) self.old.least;
+          greatest = cond self.old.has_min_max (greatest_with self.old.greatest values.now) self.old.greatest;
+        } }
+    {
+        if !self.has_min_max {
+            return;
+        }
+        if let Some((first, _)) = values.split_first() {
+            let first = wide_of(*first);
+            let least = self.least.unwrap_or(first);
+            let greatest = self.greatest.unwrap_or(first);
+            let (least, greatest) = range_of(values, least, greatest);
+            self.least = Some(least);
+            self.greatest = Some(greatest);
+        }
+    }
 }
 
 impl AnyAggregator {
+    /// Takes in the records that these values make, one after another.
+    pub(crate) fn update_each(&mut self, settings: &AnySettings, values: &[NumberValue])
+        ensures { fold_in self.new ≡ fold record_fold (fold_in self.old) (samples_of (aggregate_of settings.now) values.now) }
+    {
+        match self {
+            AnyAggregator::Sum(sum) => *sum = sum_of(values, *sum),
+            AnyAggregator::LastValue(last) => {
+                if let Some(value) = values.last() {
+                    *last = bits_of(*value);
+                }
+            }
+            AnyAggregator::Histogram(buckets) => buckets.update_each(settings, values),
+        }
+    }
+
     /// The 64 bits of a sum or of a last value; 0 for a histogram.
     pub(crate) fn bits(&self) -> u64
         ensures { result ≡ value_of (fold_in self.now) }

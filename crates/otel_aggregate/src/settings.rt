@@ -1,7 +1,8 @@
 //! What a stream makes of its records.
 
-ghost use Rattle.std.specs.Prelude.{◌≡◌, ◌+◌};
-ghost use Rattle.otel_model_stream.specs.Folds.{empty_of, sample_of, wrap};
+ghost use Rattle.std.specs.Prelude.{◌≡◌, ◌+◌, true, fold};
+ghost use Rattle.otel_model_stream.specs.Data.{rises};
+ghost use Rattle.otel_model_stream.specs.Folds.{bounds_of, empty_of, sample_of, wrap};
 ghost use Rattle.otel_model_stream.specs.Totals.{size};
 ghost use Rattle.otel_aggregate.specs.Any.{aggregate_of, amount_of, is_monotonic_of, drains_of};
 ghost use Rattle.otel_aggregate.specs.AnyKept.{empty_for, sample_in};
@@ -9,7 +10,7 @@ ghost use Rattle.otel_aggregate.specs.AnyKept.{empty_for, sample_in};
 use crate::aggregators::bounds::Bounds;
 use crate::aggregators::buckets::BucketsConfig;
 use crate::any_aggregator::{AnyConfig, AnyRecord};
-use crate::values::{bits_of, wide_of};
+use crate::values::bits_of;
 use otel_data::numbers::NumberValue;
 
 /// The bounds of a histogram's buckets, and what it keeps besides their counts.
@@ -59,13 +60,24 @@ impl AnySettings {
         }
     }
 
+    /// The bounds of its buckets; none unless it is a histogram.
+    pub(crate) fn bounds(&self) -> &[i64]
+        ensures value { result.now ≡ bounds_of (aggregate_of self.now) }
+        ensures rising { rises result.now ≡ true }
+    {
+        match self {
+            AnySettings::Histogram(settings) => settings.bounds.as_slice(),
+            _ => &[],
+        }
+    }
+
     /// The record that a value makes.
     #[inline(always)]
     pub(crate) fn record(&self, value: NumberValue) -> AnyRecord
         ensures { sample_in result ≡ sample_of (aggregate_of self.now) (amount_of value) }
     {
         let bucket = match self {
-            AnySettings::Histogram(settings) => settings.bounds.bucket_of(wide_of(value)),
+            AnySettings::Histogram(settings) => settings.bounds.bucket_of(value),
             _ => 0,
         };
         AnyRecord { value, bucket }
@@ -83,6 +95,17 @@ impl AnySettings {
             _ => 0,
         };
         total.wrapping_add(size)
+    }
+
+    /// The total of the records once those of these values are made.
+    pub(crate) fn counted_each(&self, values: &[NumberValue], total: u64) -> u64
+        ensures { result ≡ fold (λ n value. wrap (n + size (aggregate_of self.now) (amount_of value))) total values.now }
+    {
+        let mut counted = total;
+        for value in values {
+            counted = self.counted(*value, counted);
+        }
+        counted
     }
 
     /// Whether it is a sum to which only values of at least 0 are added.

@@ -1,6 +1,6 @@
 //! A bounded map from sets of attributes to aggregators.
 
-ghost use Rattle.std.specs.Prelude.{◌≡◌, ◌<◌, ◌-◌, ◌+◌, ◌*◌, ◌≤◌, ◌^◌, ◌++◌, [], true, false, is_some, length, map, None, Some, IsSome, IfSome, OnOk, OnErr, IfOk, IsOk, IfErr, IsOkUnless, IsTrue};
+ghost use Rattle.std.specs.Prelude.{◌≡◌, ◌<◌, ◌-◌, ◌+◌, ◌*◌, ◌≤◌, ◌^◌, ◌++◌, [], true, false, is_some, length, map, fold, None, Some, IsSome, IfSome, OnOk, OnErr, IfOk, IsOk, IfErr, IsOkUnless, IsTrue};
 ghost use Rattle.std.specs.List.{AllByRecursion};
 ghost use Rattle.std.specs.Option.{option_copied, option_map};
 ghost use Rattle.otel_common.specs.Canonical.{canon};
@@ -11,14 +11,17 @@ ghost use Rattle.otel_model_stream.specs.Observed.{fold_in};
 ghost use Rattle.otel_model_stream.specs.Folds.{wrap};
 ghost use Rattle.otel_model_stream.specs.Sets.{AttributeSet, allowed_part, none_set, set_of};
 ghost use Rattle.otel_model_stream.specs.Totals.{points_total};
+ghost use Rattle.otel_aggregate.specs.Any.{aggregate_of, samples_of};
 ghost use Rattle.otel_aggregate.specs.value_map.Contents.{known_of, is_there_in};
 ghost use Rattle.otel_aggregate.specs.value_map.Faults.{IsBindFault};
 ghost use Rattle.otel_aggregate.specs.value_map.Numbers.{number_of, is_number, is_placed, handles_at, AreNamed, AreNumbered, spelling_of, KeepNumbers, KeepLeft};
 ghost use Rattle.otel_aggregate.specs.value_map.Slots.{HasForm, copies};
 
 use crate::aggregators::aggregator::Aggregator;
+use crate::any_aggregator::AnyAggregator;
 use crate::sets::allowed_keys::AllowedKeys;
 use crate::sets::references::{kept_references, references_to};
+use crate::settings::AnySettings;
 use crate::value_map::draft::Draft;
 use crate::value_map::hashed_key::{GivenAttributes, HashedSet};
 use crate::value_map::hashing::SetHashBuilder;
@@ -30,6 +33,7 @@ use crate::value_map::table::Table;
 use otel_common::attributes::KeyValue;
 use otel_common::faults::Fault;
 use otel_common::lists::SharedItems;
+use otel_data::numbers::NumberValue;
 use std::alloc::{AllocError, Global};
 use std::marker::Model;
 use std::mem::{replace, swap};
@@ -335,21 +339,6 @@ impl<A: Aggregator> ValueMap<A> {
     {
         let entry = self.place();
         self.table.touch(entry, value);
-    }
-
-    /// Takes in a record for what is prepared, whose entry is there already, and keeps it prepared; `has_entry` tells
-    /// whether the entry is there. Takes no memory, and looks nothing up.
-    #[inline(always)]
-    pub(crate) fn commit_kept(&mut self, value: A::PreComputedValue)
-        requires { (s : AttributeSet) × (self.old.pending ≡ Some s) × (is_placed s self.old.state.table.entries ≡ true) }
-        ensures measured { (s : AttributeSet) → self.old.pending ≡ Some s → self.new.state ≡ measured_map s (A.sample value) self.old.state }
-        ensures numbers { self.new.numbers ≡ self.old.numbers }
-        ensures given { self.new.given ≡ self.old.given }
-        ensures kept { self.new.pending ≡ self.old.pending }
-    {
-        if let Pending::At(number) = self.pending {
-            self.table.touch(number, value);
-        }
     }
 
     /// Takes in a record for the empty set, which always has an entry. Looks nothing up, takes no memory, and gives up
@@ -663,5 +652,21 @@ impl<A: Aggregator> ValueMap<A> {
         let points = self.table.shown(alloc, &Copies {}, true)?;
         self.drain();
         Ok(points)
+    }
+}
+
+impl ValueMap<AnyAggregator> {
+    /// Takes in the records of these values, one after another, for what is prepared, whose entry is there already, and
+    /// keeps it prepared; `has_entry` tells whether the entry is there. Takes no memory, and looks nothing up.
+    pub(crate) fn commit_each(&mut self, settings: &AnySettings, values: &[NumberValue])
+        requires { (s : AttributeSet) × (self.old.pending ≡ Some s) × (is_placed s self.old.state.table.entries ≡ true) }
+        ensures measured { (s : AttributeSet) → self.old.pending ≡ Some s → self.new.state ≡ fold (λ m v. measured_map s v m) self.old.state (samples_of (aggregate_of settings.now) values.now) }
+        ensures numbers { self.new.numbers ≡ self.old.numbers }
+        ensures given { self.new.given ≡ self.old.given }
+        ensures kept { self.new.pending ≡ self.old.pending }
+    {
+        if let Pending::At(number) = self.pending {
+            self.table.touch_each(number, settings, values);
+        }
     }
 }

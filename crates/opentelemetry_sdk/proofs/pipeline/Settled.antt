@@ -11,7 +11,7 @@ use Rattle.otel_model_stream.specs.Entries.{Entry, new_entry, is_of, has, number
 use Rattle.otel_model_stream.specs.Maps.{bound_to}
 use Rattle.otel_model_stream.specs.Sets.{AttributeSet, none_set, over_set, set_of}
 use Rattle.otel_model_stream.proofs.Sets.{set_eq_true, set_eq_self, over_apart}
-use Rattle.otel_aggregate.specs.Any.{is_signed_value, amount_of, any_after_commit}
+use Rattle.otel_aggregate.specs.Any.{is_signed_value, amount_of, any_after_commit, any_after_commits}
 use Rattle.otel_aggregate.specs.Streams.{AggregateContents, AggregateState}
 use Rattle.otel_aggregate.specs.value_map.Numbers.{is_placed}
 use Rattle.otel_model.specs.Demands.{Demand}
@@ -22,7 +22,7 @@ use Rattle.otel_model.specs.Streams.{aggregate_of}
 use Rattle.otel_model.proofs.batches.Tables.{entry_for-on, settled-on, settled_stays, settled_rests}
 use Rattle.otel_model.proofs.batches.Writes.{write-keeps}
 use Rattle.opentelemetry_sdk.specs.pipeline.Known.{is_known_to}
-use Rattle.opentelemetry_sdk.specs.pipeline.Streams.{StreamContents, IsAsked, asked_aggregate, contents_of, used_for, with_record, committed_by, contents_after_record, without_pending}
+use Rattle.opentelemetry_sdk.specs.pipeline.Streams.{StreamContents, IsAsked, asked_aggregate, contents_of, used_for, with_record, committed_by, contents_after_each, contents_after_record, without_pending}
 use Rattle.opentelemetry_sdk.proofs.pipeline.Asked.{asked-taken, taken}
 use Rattle.opentelemetry_sdk.proofs.pipeline.Drafted.{observed-settled}
 use Rattle.opentelemetry_sdk.proofs.pipeline.Records.{used-recorded}
@@ -173,3 +173,16 @@ module _ (l : List KeyValue) (d : Demand) (a : AggregateContents) where
         known = ap (is_known_to l) now-stream ∙ known-recorded l v held kept.known;
         pending = ap (λ (x : AggregateContents). x.pending) made ∙ (kept.pending ∙ ap Some (sym (used-kept l v held kept.known) ∙ ap (λ (q : Stream). entry_for (set_for d l) (entries_with_place q.demand.limit (empty_of (aggregate_of q.demand)) (set_for d l) q.machine.table.entries)) (sym now-stream)));
       }
+
+-- so are records of several values
+module _ (l : List KeyValue) (d : Demand) where
+  abbrev after : NumberValue → AggregateContents → AggregateContents
+  after v a = record (any_after_commit v a) { pending = a.pending }
+
+  pub each-still : (vs : List NumberValue) (a : AggregateContents) → IsKept l d a → IsKept l d (any_after_commits vs a)
+  each-still [] a kept = kept
+  each-still (v ∷ vs) a kept = each-still vs (after v a) (kept-still l d a kept v (after v a) refl)
+
+  pub each-made : (vs : List NumberValue) (a : AggregateContents) → IsKept l d a → without_pending (contents_of d (any_after_commits vs a)) ≡ contents_after_each vs l (without_pending (contents_of d a))
+  each-made [] a kept = refl
+  each-made (v ∷ vs) a kept = each-made vs (after v a) (kept-still l d a kept v (after v a) refl) ∙ ap (contents_after_each vs l) (kept-made l d a kept v (after v a) refl)

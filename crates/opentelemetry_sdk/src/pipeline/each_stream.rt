@@ -1,6 +1,7 @@
 //! Calls that change streams of one reader, one after another.
 
 ghost use Rattle.std.specs.Prelude.{◌≡◌, ◌<◌, [], true, false, All, slice_get, OnOk, IsOk};
+ghost use Rattle.otel_aggregate.specs.Any.{HaveOneType};
 ghost use Rattle.otel_model.specs.Calls.{or_else};
 ghost use Rattle.opentelemetry_sdk.specs.pipeline.Known.{IsKnownIfThere, are_known};
 ghost use Rattle.opentelemetry_sdk.specs.pipeline.Pipelines.{AreNumbers, AreReady, all_without_pending, terms_of, changed_each, all_after_collection};
@@ -53,7 +54,8 @@ pub(crate) fn record_known_each(
     values: &[NumberValue],
     attributes: &GivenAttributes,
 ) -> bool
-    requires { AreNumbers streams.old.items feeds.now }
+    requires numbers { AreNumbers streams.old.items feeds.now }
+    requires alike { HaveOneType values.now }
     ensures told { result ≡ are_known attributes.now streams.old.items feeds.now }
     ensures made { result ≡ true → all_without_pending streams.new.items ≡ all_without_pending (changed_each (contents_after_each values.now attributes.now) feeds.now streams.old.items) }
     ensures idle { values.now ≡ [] → all_without_pending streams.new.items ≡ all_without_pending streams.old.items }

@@ -3,6 +3,7 @@
 ghost use Rattle.std.specs.Prelude.{◌≡◌, nat_lt, true, false, Some, IfOk, IfSome, IsOk, OnOk, OnErr, IsOkUnless};
 ghost use Rattle.std.specs.Option.{option_map};
 ghost use Rattle.otel_common.specs.Temporalities.{resets};
+ghost use Rattle.otel_aggregate.specs.Any.{HaveOneType};
 ghost use Rattle.otel_model.specs.Calls.{is_observable};
 ghost use Rattle.otel_model.specs.Collections.{number_of_points};
 ghost use Rattle.opentelemetry_sdk.specs.pipeline.Known.{is_known_to};
@@ -133,13 +134,15 @@ impl MetricStream {
         self.aggregate.measure(value, attributes)
     }
 
-    /// Takes in records of these values with the attributes, those of the stream's number type, if a record of the
-    /// attributes makes no entry, and answers whether that is so. Otherwise nothing changes. Looks the attributes up once.
+    /// Takes in records of these values with the attributes, if they have the stream's number type, provided that a record
+    /// of the attributes makes no entry, and answers whether that is so. Otherwise nothing changes. Looks the attributes up
+    /// once.
     pub(crate) fn record_known(
         &mut self,
         values: &[NumberValue],
         attributes: &GivenAttributes,
     ) -> bool
+        requires { HaveOneType values.now }
         ensures told { result ≡ is_known_to attributes.now self.old.stream }
         ensures made { result ≡ true → without_pending self.new ≡ without_pending (contents_after_each values.now attributes.now self.old) }
         ensures unmade { result ≡ false → without_pending self.new ≡ without_pending self.old }
@@ -147,9 +150,7 @@ impl MetricStream {
         if self.aggregate.prepare(attributes).is_err() || !self.aggregate.has_entry() {
             return false;
         }
-        for value in values {
-            self.aggregate.commit_kept(*value);
-        }
+        self.aggregate.commit_each(values);
         true
     }
 

@@ -3,6 +3,7 @@
 ghost use Rattle.std.specs.Prelude.{◌≡◌, ℕ, [], true, false, All, map, IsOk, OnOk, OnErr, IsOkUnless};
 ghost use Rattle.std.specs.List.{list_any, list_all, AllByRecursion as EachOf};
 ghost use Rattle.std.specs.Option.{option_map};
+ghost use Rattle.otel_aggregate.specs.Any.{HaveOneType};
 ghost use Rattle.otel_model.specs.Calls as model;
 ghost use Rattle.otel_model.specs.Machine as machine;
 ghost use Rattle.otel_model.specs.Machine.{part_after_call};
@@ -171,25 +172,22 @@ pub(crate) fn bind_or_none(
 
 /// Takes in records of these values with the attributes in the streams that an instrument feeds, at all readers, if these
 /// all know the attributes, and answers whether they do. If one doesn't, others may have taken the records in; without
-/// values nothing changes. Hashes the attributes once if several readers are to look them up.
+/// values nothing changes.
 pub(crate) fn record_known_all(
     pipelines: &mut [Pipeline],
     instrument: usize,
     values: &[NumberValue],
     attributes: &GivenAttributes,
 ) -> bool
-    requires { EachOf (λ v. FeedType instrument (number_of v) (map part_of pipelines.old)) values.now }
+    requires typed { EachOf (λ v. FeedType instrument (number_of v) (map part_of pipelines.old)) values.now }
+    requires alike { HaveOneType values.now }
     ensures told { result ≡ list_all (is_known_at instrument attributes.now) (map part_of pipelines.old) }
     ensures placed { result ≡ true → EachOf (λ p. EachOf (IsPlaced p.feeds (Listed instrument attributes.now)) p.streams) (map part_of pipelines.old) }
     ensures made { result ≡ true → map part_of pipelines.new ≡ map (part_after_each instrument values.now attributes.now) (map part_of pipelines.old) }
     ensures idle { values.now ≡ [] → map part_of pipelines.new ≡ map part_of pipelines.old }
 {
-    let Some(first) = pipelines.first() else {
-        return true;
-    };
-    let given = attributes.hashed_for(pipelines.len(), first.hasher);
     for i in 0..pipelines.len() {
-        if !pipelines[i].record_known(instrument, values, &given) {
+        if !pipelines[i].record_known(instrument, values, attributes) {
             return false;
         }
     }

@@ -1,5 +1,5 @@
 -- Where a record's entry is, once its set has a place.
-use Rattle.std.proofs.Common.{ℕ, ◌-◌, ◌+◌, ◌^◌, ◌<◌, ◌≡◌, List, [], ◌∷◌, ◌++◌, map, nat_lt, Bool, true, false, cond, ◌||◌, Option, Some, None, append-nil, refl, ap, arith, subst, sym, ◌∙◌}
+use Rattle.std.proofs.Common.{ℕ, ◌-◌, ◌^◌, ◌<◌, ◌≡◌, List, [], ◌∷◌, ◌++◌, nat_lt, Bool, true, false, cond, ◌||◌, Option, Some, None, append-nil, refl, ap, arith, subst, sym, ◌∙◌}
 use Rattle.std.specs.Map.{lookup, keys_of}
 use Rattle.std.proofs.lemmas.Bool.{cond_both, or_left, or_right, or_parts}
 use Rattle.std.proofs.lemmas.List.Folds.{list_any-append}
@@ -8,7 +8,7 @@ use Rattle.otel_common.specs.Equality.{set_eq}
 use Rattle.otel_common.specs.declared.attributes.KeyValue.{KeyValue}
 use Rattle.otel_model_stream.specs.Folds.{Fold, Sample}
 use Rattle.otel_model_stream.specs.Sets.{AttributeSet, none_set, over_set}
-use Rattle.otel_model_stream.specs.Entries.{Entry, Table, new_entry, is_of, has, number_counted, entries_with_place, entry_for, place, on, at_entry, write, take_handle}
+use Rattle.otel_model_stream.specs.Entries.{Entry, Table, new_entry, is_of, has, number_counted, entries_with_place, entry_for, place, at_entry, write, take_handle}
 use Rattle.otel_model_stream.specs.Maps.{MapState, with_place, measured_map, measured_list, bound_map, bound_to}
 use Rattle.otel_aggregate.specs.value_map.Keyed.{Slotted, IsNew}
 use Rattle.otel_aggregate.specs.value_map.Slots.{Kept, entry_of, new_kept}
@@ -19,7 +19,6 @@ use Rattle.otel_aggregate.specs.declared.value_map.pending.Pending.TheVariants.{
 use Rattle.otel_aggregate.proofs.HandleLemmas.{has-on}
 use Rattle.otel_aggregate.proofs.value_map.KeyedLemmas.{same_set, set_eq-self, set_eq-flip}
 use Rattle.otel_aggregate.proofs.value_map.AddLemmas.{lookup-pushed, numbers-pushed}
-use Rattle.otel_aggregate.proofs.value_map.TableLemmas.{counted_cons}
 
 -- what a place does: the entries, and which of them the set uses
 pub record Placing (limit : ℕ) (empty : Fold) (s : AttributeSet) (entries after : List Entry) (used : AttributeSet) : Type 0 where
@@ -65,7 +64,7 @@ as_state : (st : MapState) (s : AttributeSet) (t : Table) (goal : AttributeSet) 
 as_state st s t goal none p = λ i. record st { table = record { none = none i; entries = p.state i } }
 
 -- a record of a set that uses an entry that is there
-measured-by : (m : MapState) (s : AttributeSet) (v : Sample) (used : AttributeSet) → Placing m.limit m.empty s m.table.entries m.table.entries used → measured_map s v m ≡ record m { table = at_entry used (write v) m.table }
+pub measured-by : (m : MapState) (s : AttributeSet) (v : Sample) (used : AttributeSet) → Placing m.limit m.empty s m.table.entries m.table.entries used → measured_map s v m ≡ record m { table = at_entry used (write v) m.table }
 measured-by m s v used p =
     ap (λ (es : List Entry). record m { table = at_entry (entry_for s es) (write v) (record { none = m.table.none; entries = es }) }) (sym p.state)
     ∙ ap (λ (u : AttributeSet). record m { table = at_entry u (write v) m.table }) p.goal
@@ -143,13 +142,13 @@ new-prepared t few room p set list sound is = subst (IsSound t few room) (sym is
 pub new-set : (ns : Numbers) (p : Pending) (set s : AttributeSet) (list : Option (List KeyValue)) → New set list ≡ p → pending_in ns p ≡ Some s → set ≡ s
 new-set ns p set s list is e = let both : Some set ≡ Some s = ap (pending_in ns) is ∙ e in cc
 
--- what uses an entry that is there can be carried out still once a record is written there
-pub sound-written : (t after : Slotted) (few room now_few now_room : Bool) (p : Pending) (n : ℕ) (v : Sample) → p ≡ At n → IsSound t few room p
-    → ((s : AttributeSet) → number_of s t.numbers ≡ Some n → after.table ≡ at_entry s (write v) t.table) → after.numbers ≡ t.numbers → IsSound after now_few now_room p
-sound-written t after few room now_few now_room p n v is sound written numbers =
+-- what uses an entry that is there can be carried out still once that entry changed
+pub sound-changed : (t after : Slotted) (few room now_few now_room : Bool) (p : Pending) (n : ℕ) (f : Entry → Entry) → ((e : Entry) → (f e).set ≡ e.set) → p ≡ At n → IsSound t few room p
+    → ((s : AttributeSet) → number_of s t.numbers ≡ Some n → after.table ≡ at_entry s f t.table) → after.numbers ≡ t.numbers → IsSound after now_few now_room p
+sound-changed t after few room now_few now_room p n f keeps is sound written numbers =
     let g : AttributeSet = set_named n t.numbers in
     let there = subst (IsSound t few room) is sound in
-    let placed : is_placed g after.table.entries ≡ true = ap (λ (x : Table). is_placed g x.entries) (written g there.0) ∙ ap (λ b. set_eq g none_set || b) (has-on (write v) (λ e. refl) g g t.table.entries) ∙ there.1 in
+    let placed : is_placed g after.table.entries ≡ true = ap (λ (x : Table). is_placed g x.entries) (written g there.0) ∙ ap (λ b. set_eq g none_set || b) (has-on f keeps g g t.table.entries) ∙ there.1 in
     subst (IsSound after now_few now_room) (sym is)
     (subst (λ (ns : Numbers). (number_of (set_named n ns) ns ≡ Some n) × (is_placed (set_named n ns) after.table.entries ≡ true)) (sym numbers) (there.0, placed))
 

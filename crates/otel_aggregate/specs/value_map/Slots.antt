@@ -1,10 +1,10 @@
 -- What is kept in slots, as the model's entries.
-use Rattle.std.specs.Prelude.{◌≡◌, ℕ, ◌+◌, ◌-◌, nat_eq, nat_lt, ◌||◌, Bool, true, false, cond, List, map, Option, Some, None}
+use Rattle.std.specs.Prelude.{◌≡◌, ℕ, ◌+◌, ◌-◌, nat_eq, nat_lt, ◌||◌, Bool, true, false, cond, List, map, fold, Option, Some, None}
 use Rattle.std.specs.Option.{option_map}
 use Rattle.slab.specs.Slab.{Slab, get}
 use Rattle.otel_model_stream.specs.Sets.{AttributeSet, none_set}
 use Rattle.otel_model_stream.specs.Folds.{Fold, Total, Sample, record_fold, clear_fold}
-use Rattle.otel_model_stream.specs.Entries.{Entry, Point, Table}
+use Rattle.otel_model_stream.specs.Entries.{Entry, Point, Table, write}
 use Rattle.otel_aggregate.specs.declared.value_map.slots.Slot.{Slot}
 
 -- what is kept in a slot. What lasts stays at every resetting collection, as the empty set's and the overflow entry do
@@ -42,6 +42,10 @@ new_kept empty counted lasting = record { counted = counted; updated = false; la
 -- with one more record
 abbrev pub written : Sample → Kept → Kept
 written v k = record k { updated = true; fold = record_fold k.fold v }
+
+-- with more records
+abbrev pub written_each : List Sample → Kept → Kept
+written_each vs k = fold (λ (k : Kept) (v : Sample). written v k) k vs
 
 -- with one more live handle
 abbrev pub held : Kept → Kept
@@ -87,6 +91,10 @@ Keyed = AttributeSet × ℕ
 
 abbrev pub entry_at : Look → Keyed → Entry
 entry_at look e = entry_of e.0 (look e.1)
+
+-- an entry with more records
+abbrev pub write_each : List Sample → Entry → Entry
+write_each vs e = fold (λ (e : Entry) (v : Sample). write v e) e vs
 
 -- the table of these slots: the entry of the empty set, and those of the sets, by their slots' numbers
 abbrev pub table_at : Look → ℕ → List Keyed → Table

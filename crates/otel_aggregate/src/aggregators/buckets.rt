@@ -1,12 +1,16 @@
 //! What a histogram keeps of the records of one set of attributes.
 
-ghost use Rattle.std.specs.Prelude.{◌≡◌, ◌+◌, ℤ, Bool, List, ◌∷◌, Some, sum};
+ghost use Rattle.std.specs.Prelude.{◌≡◌, ◌+◌, ℤ, Bool, true, List, ◌∷◌, Some, sum};
 ghost use Rattle.std.specs.Option.{option_map};
+ghost use Rattle.otel_model_stream.specs.Data.{rises};
 ghost use Rattle.otel_model_stream.specs.Folds.{Spreads, Amount, Histogram, fold_of, wrap, lesser, greater, counted_in, no_spread, clear_fold_no_spread};
+ghost use Rattle.otel_aggregate.specs.AnyKept.{counts_with};
 
 use crate::aggregators::aggregator::Aggregator;
+use crate::aggregators::bounds::bucket_among;
 use crate::aggregators::number::Number;
 use otel_common::faults::Fault;
+use otel_data::numbers::NumberValue;
 use std::alloc::Global;
 
 /// The number of buckets, and what is kept besides their counts.
@@ -59,11 +63,22 @@ fn greater_of<T: Number>(greatest: Option<T>, value: T) -> T
 
 /// Counts one more record in a bucket, if there is such a bucket.
 #[tactic(auto, using(crate::proofs::aggregators::BoundLemmas::counted_set, crate::proofs::aggregators::BoundLemmas::counted_beyond))]
+#[inline]
 fn count_in(counts: &mut [u64], bucket: usize)
     ensures { counts.new ≡ counted_in counts.old bucket }
 {
     if bucket < counts.len() {
         counts[bucket] = counts[bucket].wrapping_add(1);
+    }
+}
+
+/// Counts these values, each in the bucket after the bounds that are less.
+pub(crate) fn count_each(counts: &mut [u64], bounds: &[i64], values: &[NumberValue])
+    requires { rises bounds.now ≡ true }
+    ensures { counts.new ≡ counts_with bounds.now counts.old values.now }
+{
+    for value in values {
+        count_in(counts, bucket_among(bounds, value));
     }
 }
 

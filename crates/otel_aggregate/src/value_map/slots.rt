@@ -3,9 +3,14 @@
 ghost use Rattle.std.specs.Prelude.{◌≡◌, ◌<◌, ◌-◌, ◌^◌, cond, nat_eq, false, IfSome, None, Some};
 ghost use Rattle.std.specs.Option.{option_map};
 ghost use Rattle.slab.specs.Slab.{get, HasRoomFor};
-ghost use Rattle.otel_aggregate.specs.value_map.Slots.{SameLook, look_in, kept_of, with_slot, at_slot, written, held, released, forgotten, left_of};
+ghost use Rattle.otel_aggregate.specs.Any.{aggregate_of, samples_of};
+ghost use Rattle.otel_aggregate.specs.AnyKept.{fold_in};
+ghost use Rattle.otel_aggregate.specs.value_map.Slots.{SameLook, look_in, kept_of, with_slot, at_slot, written, written_each, held, released, forgotten, left_of};
 
 use crate::aggregators::aggregator::Aggregator;
+use crate::any_aggregator::AnyAggregator;
+use crate::settings::AnySettings;
+use otel_data::numbers::NumberValue;
 use slab::Slab;
 
 /// What is kept of the records of one set.
@@ -57,6 +62,19 @@ impl<A: Aggregator> Slot<A> {
     }
 }
 
+impl Slot<AnyAggregator> {
+    /// Takes in the records of these values, one after another.
+    fn update_each(&mut self, settings: &AnySettings, values: &[NumberValue])
+        ensures { kept_of fold_in self.new ≡ written_each (samples_of (aggregate_of settings.now) values.now) (kept_of fold_in self.old) }
+    {
+        if values.is_empty() {
+            return;
+        }
+        self.updated = true;
+        self.aggregator.update_each(settings, values);
+    }
+}
+
 /// Fills a vacant slot and returns its number.
 pub fn fill<A: Aggregator>(slots: &mut Slab<Slot<A>>, slot: Slot<A>) -> usize
     requires { HasRoomFor slots.old 1 }
@@ -74,6 +92,20 @@ pub fn touch<A: Aggregator>(slots: &mut Slab<Slot<A>>, number: usize, value: A::
     if let Some(slot) = slots.get_mut(number) {
         slot.updated = true;
         slot.aggregator.update(value);
+    }
+}
+
+/// Takes the records of these values into the slot with this number, one after another, without a look-up.
+pub(crate) fn touch_each(
+    slots: &mut Slab<Slot<AnyAggregator>>,
+    number: usize,
+    settings: &AnySettings,
+    values: &[NumberValue],
+)
+    ensures look { SameLook (look_in fold_in slots.new) (at_slot number (written_each (samples_of (aggregate_of settings.now) values.now)) (look_in fold_in slots.old)) }
+{
+    if let Some(slot) = slots.get_mut(number) {
+        slot.update_each(settings, values);
     }
 }
 

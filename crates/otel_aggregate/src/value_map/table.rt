@@ -13,21 +13,25 @@ ghost use Rattle.otel_model_stream.specs.Observed.{fold_in};
 ghost use Rattle.otel_model_stream.specs.Totals.{points_total};
 ghost use Rattle.otel_model_stream.specs.Entries.{point_of_entry, has, write, take_handle, drop_handle, at_entry, evicted_table, drained_table, points, number_counted};
 ghost use Rattle.std.specs.List.{AllByRecursion, IsDistinct};
+ghost use Rattle.otel_aggregate.specs.Any.{aggregate_of, samples_of};
 ghost use Rattle.otel_aggregate.specs.value_map.Keyed.{Fits, found, IsNew, IsSpelling, with_spelling};
 ghost use Rattle.otel_aggregate.specs.value_map.Numbers.{number_of, handles_at, AreNamed, AreNumbered, KeepLeft, IsNumberOf, is_number};
-ghost use Rattle.otel_aggregate.specs.value_map.Slots.{HasForm, Look, look_in, kept_of, entry_of, entry_at};
+ghost use Rattle.otel_aggregate.specs.value_map.Slots.{HasForm, Look, look_in, kept_of, entry_of, entry_at, write_each};
 
 use crate::aggregators::aggregator::Aggregator;
+use crate::any_aggregator::AnyAggregator;
 use crate::sets::allowed_keys::AllowedKeys;
 use crate::sets::forms::is_form_of;
+use crate::settings::AnySettings;
 use crate::value_map::hashed_key::{HashedSet, OwnedSet};
 use crate::value_map::hashing::SetHashBuilder;
 use crate::value_map::key_table::KeyTable;
 use crate::value_map::maker::PointMaker;
-use crate::value_map::slots::{Slot, clear_others, fill, hold, release, settle, touch};
+use crate::value_map::slots::{Slot, clear_others, fill, hold, release, settle, touch, touch_each};
 use otel_common::attributes::KeyValue;
 use otel_common::faults::Fault;
 use otel_common::lists::SharedItems;
+use otel_data::numbers::NumberValue;
 use slab::Slab;
 use std::alloc::{AllocError, Global};
 use std::marker::Model;
@@ -468,4 +472,21 @@ fn copy_entries<A: Aggregator>(
         }
     }
     Ok(())
+}
+
+impl Table<AnyAggregator> {
+    /// Takes the records of these values into the entry with this number, one after another, without a look-up.
+    pub(crate) fn touch_each(
+        &mut self,
+        number: usize,
+        settings: &AnySettings,
+        values: &[NumberValue],
+    )
+        ensures table { (s : AttributeSet) → number_of s self.old.numbers ≡ Some number → self.new.table ≡ at_entry s (write_each (samples_of (aggregate_of settings.now) values.now)) self.old.table }
+        ensures counted { number_counted self.new.table.entries ≡ number_counted self.old.table.entries }
+        ensures numbers { self.new.numbers ≡ self.old.numbers }
+        ensures aliases { self.new.aliases ≡ self.old.aliases }
+    {
+        touch_each(&mut self.slots, number, settings, values);
+    }
 }

@@ -78,8 +78,8 @@ impl<C: Account, S: Account> Worker<C, S> {
 
     /// Puts the records that wait together by series, which `Locked::submit` otherwise does under the lock. Call it right
     /// before the lock is taken, once the list is complete: a record that is added later is left out, and one of a new
-    /// series undoes it. Takes memory for a copy of the values; if that is refused, or few records wait for their series,
-    /// nothing is done.
+    /// series undoes it. Takes memory for a copy of the values. Nothing is done if that is refused, if few records wait for
+    /// their series, or if only the front of the list was made or taken out before.
     pub fn group(&mut self)
         ensures waiting { waits_of self.new ≡ waits_of self.old }
         ensures kept { (records_of self.new ≡ records_of self.old) × (values_of self.new ≡ values_of self.old) × (worker_identity self.new ≡ worker_identity self.old) }

@@ -6,35 +6,37 @@ ghost use Rattle.otel_model.specs.Batches.{written_all, written_each};
 ghost use Rattle.otel_model.specs.State.{State};
 ghost use Rattle.opentelemetry_sdk.specs.Batches.{IsIn, IsKnownGroup};
 ghost use Rattle.opentelemetry_sdk.specs.Correspondence.{number_of};
-ghost use Rattle.opentelemetry_sdk.specs.Groups.{AreGrouped, AreOfOneType, group_of, listed_at, with_numbers};
+ghost use Rattle.opentelemetry_sdk.specs.Groups.{AreGrouped, AreOfOneType, listed_at, with_numbers};
 ghost use Rattle.opentelemetry_sdk.specs.Pending.{AreDone, call_in};
 ghost use Rattle.opentelemetry_sdk.specs.pipeline.Pipelines.{part_of};
-ghost use Rattle.opentelemetry_sdk.specs.declared.metrics.shared.groups.Group.{Group};
 
-use crate::metrics::shared::groups::{Group, Groups};
+use crate::metrics::shared::groups::Groups;
 use crate::metrics::shared::waiting::Waiting;
 use crate::pipeline::Pipeline;
 use crate::provider_core::Core;
 use crate::provider_core::checks::check_value;
 use crate::provider_core::each_pipeline::record_known_all;
 use crate::provider_core::instrument::Instrument;
+use otel_data::numbers::NumberValue;
 
-/// Whether the instrument of a series takes its values, and all streams that it feeds know the series' attributes.
+/// Whether the instrument of the series at this place takes these values, and all streams that it feeds know the series'
+/// attributes.
 fn is_known(
     pipelines: &mut [Pipeline],
     instruments: &[Instrument],
     waiting: &Waiting,
-    group: &Group,
+    place: usize,
+    values: &[NumberValue],
 ) -> bool
-    requires within { group.now.place < length waiting.now.series }
-    requires alike { AreOfOneType group.now.values.items }
+    requires within { place < length waiting.now.series }
+    requires alike { AreOfOneType values.now }
     ensures same { map part_of pipelines.new ≡ map part_of pipelines.old }
-    ensures known { result ≡ true → (st : State) → IsIn st (map part_of pipelines.old) instruments.now → IsKnownGroup waiting.now.series st (group_of group.now) }
+    ensures known { result ≡ true → (st : State) → IsIn st (map part_of pipelines.old) instruments.now → IsKnownGroup waiting.now.series st (place, values.now) }
 {
-    let Some(first) = group.values.first() else {
+    let Some(first) = values.first() else {
         return false;
     };
-    let series = waiting.series(group.place);
+    let series = waiting.series(place);
     if check_value(instruments, series.instrument, *first).is_err() {
         return false;
     }
@@ -47,37 +49,39 @@ fn are_known(
     pipelines: &mut [Pipeline],
     instruments: &[Instrument],
     waiting: &Waiting,
-    groups: &[Group],
+    groups: &Groups,
 ) -> bool
-    requires within { EachOf (λ (g : Group). (g.place < length waiting.now.series) × AreOfOneType g.values.items) groups.now }
+    requires within { EachOf (λ g. (g.0 < length waiting.now.series) × AreOfOneType g.1) groups.now.groups }
     ensures same { map part_of pipelines.new ≡ map part_of pipelines.old }
-    ensures known { result ≡ true → (st : State) → IsIn st (map part_of pipelines.old) instruments.now → EachOf (IsKnownGroup waiting.now.series st) (map group_of groups.now) }
+    ensures known { result ≡ true → (st : State) → IsIn st (map part_of pipelines.old) instruments.now → EachOf (IsKnownGroup waiting.now.series st) groups.now.groups }
 {
-    for group in groups {
-        if !is_known(pipelines, instruments, waiting, group) {
+    for number in 0..groups.len() {
+        let (place, values) = groups.get(number);
+        if !is_known(pipelines, instruments, waiting, place, values) {
             return false;
         }
     }
     true
 }
 
-/// Makes the records of a series that all streams know.
+/// Makes the records of the series at this place, which all streams know, with these values.
 fn record_group(
     pipelines: &mut [Pipeline],
     instruments: &mut Vec<Instrument>,
     waiting: &Waiting,
-    group: &Group,
+    place: usize,
+    values: &[NumberValue],
 )
-    requires within { group.now.place < length waiting.now.series }
-    requires alike { AreOfOneType group.now.values.items }
-    requires known { (st : State) × IsIn st (map part_of pipelines.old) instruments.old.items × IsKnownGroup waiting.now.series st (group_of group.now) }
-    ensures { (st : State) → IsIn st (map part_of pipelines.old) instruments.old.items → IsKnownGroup waiting.now.series st (group_of group.now)
-        → IsIn (written_all (listed_at waiting.now.series group.now.place) (map number_of group.now.values.items) st) (map part_of pipelines.new) instruments.new.items }
+    requires within { place < length waiting.now.series }
+    requires alike { AreOfOneType values.now }
+    requires known { (st : State) × IsIn st (map part_of pipelines.old) instruments.old.items × IsKnownGroup waiting.now.series st (place, values.now) }
+    ensures { (st : State) → IsIn st (map part_of pipelines.old) instruments.old.items → IsKnownGroup waiting.now.series st (place, values.now)
+        → IsIn (written_all (listed_at waiting.now.series place) (map number_of values.now) st) (map part_of pipelines.new) instruments.new.items }
 {
-    let series = waiting.series(group.place);
+    let series = waiting.series(place);
     let given = series.attributes.given();
-    record_known_all(pipelines, series.instrument, &group.values, &given);
-    instruments[series.instrument].accept_each(&group.values);
+    record_known_all(pipelines, series.instrument, values, &given);
+    instruments[series.instrument].accept_each(values);
 }
 
 /// Makes the records of these series, one series after another.
@@ -85,15 +89,16 @@ fn record_groups(
     pipelines: &mut [Pipeline],
     instruments: &mut Vec<Instrument>,
     waiting: &Waiting,
-    groups: &[Group],
+    groups: &Groups,
 )
-    requires within { EachOf (λ (g : Group). (g.place < length waiting.now.series) × AreOfOneType g.values.items) groups.now }
-    requires known { (st : State) × IsIn st (map part_of pipelines.old) instruments.old.items × EachOf (IsKnownGroup waiting.now.series st) (map group_of groups.now) }
-    ensures { (st : State) → IsIn st (map part_of pipelines.old) instruments.old.items → EachOf (IsKnownGroup waiting.now.series st) (map group_of groups.now)
-        → IsIn (written_each (listed_at waiting.now.series) (map with_numbers (map group_of groups.now)) st) (map part_of pipelines.new) instruments.new.items }
+    requires within { EachOf (λ g. (g.0 < length waiting.now.series) × AreOfOneType g.1) groups.now.groups }
+    requires known { (st : State) × IsIn st (map part_of pipelines.old) instruments.old.items × EachOf (IsKnownGroup waiting.now.series st) groups.now.groups }
+    ensures { (st : State) → IsIn st (map part_of pipelines.old) instruments.old.items → EachOf (IsKnownGroup waiting.now.series st) groups.now.groups
+        → IsIn (written_each (listed_at waiting.now.series) (map with_numbers groups.now.groups) st) (map part_of pipelines.new) instruments.new.items }
 {
-    for group in groups {
-        record_group(pipelines, instruments, waiting, group);
+    for number in 0..groups.len() {
+        let (place, values) = groups.get(number);
+        record_group(pipelines, instruments, waiting, place, values);
     }
 }
 
@@ -129,13 +134,12 @@ impl Core {
         ensures made { AreDone self.old.state (map call_in (take result waiting.now.records)) self.new.state }
         ensures seeded { self.new.hash_seed ≡ self.old.hash_seed }
     {
-        let each = groups.as_slice();
-        if groups.records() / 2 < each.len()
-            || !are_known(&mut self.pipelines, &self.instruments, waiting, each)
+        if groups.records() / 2 < groups.len()
+            || !are_known(&mut self.pipelines, &self.instruments, waiting, groups)
         {
             return 0;
         }
-        record_groups(&mut self.pipelines, &mut self.instruments, waiting, each);
+        record_groups(&mut self.pipelines, &mut self.instruments, waiting, groups);
         groups.records()
     }
 }

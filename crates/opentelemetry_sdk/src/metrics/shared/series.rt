@@ -95,6 +95,6 @@ impl<'q, 'a> Equivalent<Series> for &'q SeriesQuery<'a> {
 
     #[inline]
     fn equivalent(&self, key: &Series) -> bool {
-        self.instrument == key.instrument && self.attributes == key.attributes.as_slice()
+        self.instrument == key.instrument && key.attributes.lent().is_list(self.attributes)
     }
 }

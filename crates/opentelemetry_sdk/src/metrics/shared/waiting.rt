@@ -40,12 +40,13 @@ pub(crate) struct Waiting {
     records: Vec<WaitingRecord>,
     /// How many records at the front are made.
     made: usize,
-    /// The first records that wait, put together by series, if that was asked for and they are still these.
+    /// The first records that wait, put together by series, if that was asked for. Once some are made, it is only there to
+    /// be let go with them.
     groups: Option<Groups>,
 }
 
 impl Model for Waiting {
-    ghost use Rattle.std.specs.Prelude.{◌-◌, ◌≤◌, IfSome, length, map, drop};
+    ghost use Rattle.std.specs.Prelude.{◌≡◌, ◌-◌, ◌≤◌, IfSome, length, map, drop};
     ghost use Rattle.std.specs.List.{AllByRecursion};
     ghost use Rattle.std.specs.Vec.{vec_capacity};
     ghost use Rattle.indexmap.specs.IndexMap.{keys};
@@ -62,12 +63,12 @@ impl Model for Waiting {
       room = vec_capacity w.records - length w.records.items;
     } };
 
-    ghost invariant = { λ w. (w.made ≤ length w.records.items) × AllByRecursion (HasSeries (length (keys w.series))) w.records.items × AllByRecursion IsListOf w.series.entries × IfSome w.groups (AreGrouped (record {
+    ghost invariant = { λ w. (w.made ≤ length w.records.items) × AllByRecursion (HasSeries (length (keys w.series))) w.records.items × AllByRecursion IsListOf w.series.entries × (w.made ≡ 0 → IfSome w.groups (AreGrouped (record {
       emptied = w.emptied;
       series = keys w.series;
       records = map (record_in (keys w.series)) (drop w.made w.records.items);
       room = vec_capacity w.records - length w.records.items;
-    })) };
+    }))) };
 }
 
 impl Waiting {
@@ -163,14 +164,14 @@ impl Waiting {
         repeated
     }
 
-    /// Puts the records before the first one through a handle together by series, unless they are few or that isn't
-    /// possible.
+    /// Puts the records before the first one through a handle together by series, unless they are few, others are made and
+    /// not yet let go, or that isn't possible.
     pub(crate) fn group(&mut self)
         ensures { self.new ≡ self.old }
     {
         let most = self.count_plain();
         let mut groups = None;
-        if !self.are_few(most) {
+        if self.made == 0 && !self.are_few(most) {
             groups = Groups::new(*self.records.allocator(), self, most);
         }
         self.groups = groups;
@@ -180,7 +181,11 @@ impl Waiting {
     pub(crate) fn groups(&self) -> Option<&Groups>
         ensures { IfSome result (λ g. AreGrouped self.now g.now) }
     {
-        self.groups.as_ref()
+        if self.made == 0 {
+            self.groups.as_ref()
+        } else {
+            None
+        }
     }
 
     /// The records that wait, as the worker keeps them.
@@ -210,7 +215,6 @@ impl Waiting {
     {
         let first = self.records[self.made];
         self.made += 1;
-        self.groups = None;
         first.bits()
     }
 
@@ -223,7 +227,6 @@ impl Waiting {
     {
         let first = *self.records.get(self.made)?;
         self.made += 1;
-        self.groups = None;
         match first {
             WaitingRecord::Plain { place, value } => {
                 let instrument = self.series.get_index(place)?.0.instrument;

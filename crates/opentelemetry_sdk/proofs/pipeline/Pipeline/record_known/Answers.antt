@@ -1,5 +1,4 @@
 use Rattle.std.proofs.Common.{◌≡◌, ◌∙◌, ap, sym, [], List, ℕ, slice_get}
-use Rattle.otel_common.specs.declared.attributes.KeyValue.{KeyValue}
 use Rattle.otel_model.specs.Calls.{or_else}
 use Rattle.opentelemetry_sdk.specs.pipeline.Known.{are_known}
 use Rattle.opentelemetry_sdk.specs.pipeline.Pipelines.{IsLawful, Piped, changed_each, fed_by, part_by}
@@ -19,7 +18,7 @@ returns-clause-told c =
     let lawful : IsLawful p = rw (← c.self.view_is) at c.law_of_identities.ensures in
     let fed : c.streams_fed-feeds.result.now ≡ fed_by c.args.instrument p = c.streams_fed-feeds.ensures ∙ ap (λ g. or_else (slice_get g c.args.instrument) []) c.deref.ensures.value in
     rw (← c.self.view_is) (c.record_known_each.ensures.told
-    ∙ (λ i. are_known (c.hashed_for-given.ensures i) p.streams (fed i))
+    ∙ ap (are_known c.args.attributes.now p.streams) fed
     ∙ sym (known-fed c.args.attributes.now p lawful c.args.instrument))
 
 -- the records are sent to them
@@ -28,10 +27,10 @@ returns-clause-made c =
     let p : Piped = record { answers = c.self.inside.answers; streams = c.self.inside.streams.items; feeds = c.self.inside.feeds.items; hash_seed = c.self.inside.hasher.seed } in
     let lawful : IsLawful p = rw (← c.self.view_is) at c.law_of_identities.ensures in
     let fed : c.streams_fed-feeds.result.now ≡ fed_by c.args.instrument p = c.streams_fed-feeds.ensures ∙ ap (λ g. or_else (slice_get g c.args.instrument) []) c.deref.ensures.value in
-    let after : List KeyValue → List ℕ → List StreamContents = λ l ns. changed_each (contents_after_each c.args.values.now l) ns p.streams in
-    rw (← c.self.view_is) (λ told. settled-part p.answers c.record_known_each.new.streams.items (after c.hashed_for-given.result c.streams_fed-feeds.result.now) p.feeds (c.record_known_each.ensures.made told)
-    ∙ (λ i. part_by p.answers (after (c.hashed_for-given.ensures i) (fed i)) p.feeds)
-    ∙ values-sent c.args.instrument c.args.attributes.now c.args.values.now p lawful (rw (← c.self.view_is) at c.requires))
+    let after : List ℕ → List StreamContents = λ ns. changed_each (contents_after_each c.args.values.now c.args.attributes.now) ns p.streams in
+    rw (← c.self.view_is) (λ told. settled-part p.answers c.record_known_each.new.streams.items (after c.streams_fed-feeds.result.now) p.feeds (c.record_known_each.ensures.made told)
+    ∙ (λ i. part_by p.answers (after (fed i)) p.feeds)
+    ∙ values-sent c.args.instrument c.args.attributes.now c.args.values.now p lawful (rw (← c.self.view_is) at c.requires.typed))
 
 pub returns-clause-idle : goal.returns-clause-idle
 returns-clause-idle c = rw (← c.self.view_is) (λ none. settled-part c.self.inside.answers c.record_known_each.new.streams.items c.self.inside.streams.items c.self.inside.feeds.items (c.record_known_each.ensures.idle none))
@@ -43,4 +42,4 @@ returns-clause-placed c =
     let lawful : IsLawful p = rw (← c.self.view_is) at c.law_of_identities.ensures in
     let fed : c.streams_fed-feeds.result.now ≡ fed_by c.args.instrument p = c.streams_fed-feeds.ensures ∙ ap (λ g. or_else (slice_get g c.args.instrument) []) c.deref.ensures.value in
     rw (← c.self.view_is) (λ told. placed-fed c.args.attributes.now p lawful c.args.instrument
-    (known-fed c.args.attributes.now p lawful c.args.instrument ∙ (λ i. are_known (sym c.hashed_for-given.ensures i) p.streams (sym fed i)) ∙ sym c.record_known_each.ensures.told ∙ told))
+    (known-fed c.args.attributes.now p lawful c.args.instrument ∙ ap (are_known c.args.attributes.now p.streams) (sym fed) ∙ sym c.record_known_each.ensures.told ∙ told))

@@ -28,7 +28,7 @@ pub returns-then-is_drop-clause-told : goal.returns-then-is_drop-clause-told
 returns-then-is_drop-clause-told c =
     let l = c.args.attributes.now in
     let x : StreamContents = c.index_mut-stream.result.now in
-    unknown l c.args.feeds.now c.args.streams.now.items c.loop-k.streams.items c.loop-k.k-index x c.loop-k-test.true c.requires c.loop-k.invariant.terms c.loop-k.invariant.same c.index_mut-stream.ensures.value
+    unknown l c.args.feeds.now c.args.streams.now.items c.loop-k.streams.items c.loop-k.k-index x c.loop-k-test.true c.requires.numbers c.loop-k.invariant.terms c.loop-k.invariant.same c.index_mut-stream.ensures.value
     (elim c.then-is_drop.branch [
       | then-is_drop-via-then-is_drop w ↦ ap (λ b. not b && is_known_to l x.stream) (sym (c.is_drop.ensures ∙ ap (λ (d : Demand). is_drop d.aggregation) c.demand.ensures) ∙ w.if-is_drop.true)
       | then-is_drop-via-else-is_drop+then-not-record_known w ↦ neither (is_streamed x) (is_known_to l x.stream) (sym w.record_known.ensures.told ∙ w.if-not-record_known.true)
@@ -67,7 +67,7 @@ loop-k-preserved c =
     let x : StreamContents = c.index_mut-stream.result.now in
     let y : StreamContents = c.record_known.new.self in
     let so_far = c.loop-k.invariant in
-    let inside : n < length new = omega (arith, c.requires i 0 c.loop-k-test.true, length-seen answer_of new old so_far.terms) in
+    let inside : n < length new = omega (arith, c.requires.numbers i 0 c.loop-k-test.true, length-seen answer_of new old so_far.terms) in
     let kept : is_drop x.stream.demand.aggregation ≡ false = sym (c.is_drop.ensures ∙ ap (λ (d : Demand). is_drop d.aggregation) c.demand.ensures) ∙ c.if-is_drop.false in
     let known : is_known_to l x.stream ≡ true = sym c.record_known.ensures.told ∙ c.if-not-record_known.false in
     let here : knows l x ≡ true = λ j. not (kept j) && known j in

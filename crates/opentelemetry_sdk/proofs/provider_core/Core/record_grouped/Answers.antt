@@ -4,11 +4,11 @@ use Rattle.otel_model.specs.Batches.{written_each}
 use Rattle.otel_model.specs.State.{State}
 use Rattle.opentelemetry_sdk.specs.Batches.{IsIn, IsKnownGroup}
 use Rattle.opentelemetry_sdk.specs.Cores.{state_in}
-use Rattle.opentelemetry_sdk.specs.Groups.{group_of, listed_at, with_numbers}
+use Rattle.opentelemetry_sdk.specs.Groups.{listed_at, with_numbers}
 use Rattle.opentelemetry_sdk.specs.Pending.{AreDone, call_in}
 use Rattle.opentelemetry_sdk.specs.States.{IsSound}
 use Rattle.opentelemetry_sdk.specs.pipeline.Pipelines.{Piped, part_of}
-use Rattle.opentelemetry_sdk.proofs.Grouped.{batch-done, groups-fit, state-written}
+use Rattle.opentelemetry_sdk.proofs.Grouping.{batch-done, groups-fit, state-written}
 use Rattle.opentelemetry_sdk.proofs.StepLemmas.{lent-parts, lent_as}
 use Rattle.opentelemetry_sdk.proofs.provider_core.Core.record_grouped.Goals as goal
 use Rattle.opentelemetry_sdk.proofs.provider_core.Core.record_grouped.Goals.{After-deref_mut-2, After-record_groups}
@@ -25,19 +25,17 @@ module _ (c : After-deref_mut-2) where
     instruments = refl;
   }
 
-  known : EachOf (IsKnownGroup c.args.waiting.now.series old) (map group_of c.as_slice-each.result.now)
+  known : EachOf (IsKnownGroup c.args.waiting.now.series old) c.args.groups.now.groups
   known = c.are_known.ensures.known c.if-not-are_known.false old (record { sound = c.self.invariant; readers = ap (map part_of) (sym c.deref_mut.ensures.value); instruments = sym c.deref.ensures.value })
 
   -- the records, made series by series
-  done : AreDone old (map call_in (take c.args.groups.now.records c.args.waiting.now.records)) (written_each (listed_at c.args.waiting.now.series) (map with_numbers (map group_of c.as_slice-each.result.now)) old)
-  done = subst (λ gs. AreDone old (map call_in (take c.args.groups.now.records c.args.waiting.now.records)) (written_each (listed_at c.args.waiting.now.series) (map with_numbers gs) old)) (sym c.as_slice-each.ensures)
-      (batch-done c.args.waiting.now c.args.groups.now c.requires old c.self.invariant
-      (subst (EachOf (IsKnownGroup c.args.waiting.now.series old)) c.as_slice-each.ensures known))
+  done : AreDone old (map call_in (take c.args.groups.now.records c.args.waiting.now.records)) (written_each (listed_at c.args.waiting.now.series) (map with_numbers c.args.groups.now.groups) old)
+  done = batch-done c.args.waiting.now c.args.groups.now c.requires old c.self.invariant known
 
 -- and once they are made
-module _ (c : After-record_groups) (at : IsIn (state_in c.self.inside) (map part_of c.deref_mut-2.result.now) c.self.inside.instruments.items) (all : EachOf (IsKnownGroup c.args.waiting.now.series (state_in c.self.inside)) (map group_of c.as_slice-each.result.now)) where
+module _ (c : After-record_groups) (at : IsIn (state_in c.self.inside) (map part_of c.deref_mut-2.result.now) c.self.inside.instruments.items) (all : EachOf (IsKnownGroup c.args.waiting.now.series (state_in c.self.inside)) c.args.groups.now.groups) where
   abbrev new : State
-  new = written_each (listed_at c.args.waiting.now.series) (map with_numbers (map group_of c.as_slice-each.result.now)) (state_in c.self.inside)
+  new = written_each (listed_at c.args.waiting.now.series) (map with_numbers c.args.groups.now.groups) (state_in c.self.inside)
 
   made : IsIn new (map part_of c.record_groups.new.pipelines) c.record_groups.new.instruments.items
   made = c.record_groups.ensures (state_in c.self.inside) at all
@@ -47,13 +45,13 @@ module _ (c : After-record_groups) (at : IsIn (state_in c.self.inside) (map part
   with_parts ps = record { shared = record (state_in c.self.inside).shared { instruments = c.record_groups.new.instruments.items }; readers = map part_of ps }
 
   left : new ≡ with_parts c.record_groups.new.pipelines
-  left = state-written (listed_at c.args.waiting.now.series) (map with_numbers (map group_of c.as_slice-each.result.now)) (state_in c.self.inside) (map part_of c.record_groups.new.pipelines) c.record_groups.new.instruments.items made
+  left = state-written (listed_at c.args.waiting.now.series) (map with_numbers c.args.groups.now.groups) (state_in c.self.inside) (map part_of c.record_groups.new.pipelines) c.record_groups.new.instruments.items made
 
 pub are_known-requires : goal.are_known-requires
-are_known-requires c = record { within = groups-fit c.args.waiting.now c.args.groups.now c.requires c.as_slice-each.result.now c.as_slice-each.ensures }
+are_known-requires c = record { within = groups-fit c.args.waiting.now c.args.groups.now c.requires }
 
 pub record_groups-requires-clause-within : goal.record_groups-requires-clause-within
-record_groups-requires-clause-within c = groups-fit c.args.waiting.now c.args.groups.now c.requires c.as_slice-each.result.now c.as_slice-each.ensures
+record_groups-requires-clause-within c = groups-fit c.args.waiting.now c.args.groups.now c.requires
 
 pub record_groups-requires-clause-known : goal.record_groups-requires-clause-known
 record_groups-requires-clause-known c =

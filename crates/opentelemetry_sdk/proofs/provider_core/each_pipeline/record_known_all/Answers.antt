@@ -25,11 +25,11 @@ typed-at : (n : ℕ) (vs : List NumberValue) (ps : List Piped) (i : ℕ) (d : Pi
 typed-at n [] ps i d h all = tt
 typed-at n (v ∷ vs) ps i d h all = (each-at (FeedsType n (is_signed_value v)) ps i d h all.0, typed-at n vs ps i d h all.1)
 
-pub record_known-requires : goal.record_known-requires
-record_known-requires c =
+pub record_known-requires-clause-typed : goal.record_known-requires-clause-typed
+record_known-requires-clause-typed c =
     let d : Piped = c.index-pipelines-i.result in
     let i : ℕ = c.loop-i.i in
-    rw (c.loop-i.invariant.done.rest i (omega arith) d) (typed-at c.args.instrument c.args.values.now c.args.pipelines.now i d (omega (arith, c.loop-i.invariant.done.long)) c.requires)
+    rw (c.loop-i.invariant.done.rest i (omega arith) d) (typed-at c.args.instrument c.args.values.now c.args.pipelines.now i d (omega (arith, c.loop-i.invariant.done.long)) c.requires.typed)
 
 pub returns-then-not-record_known-clause-told : goal.returns-then-not-record_known-clause-told
 returns-then-not-record_known-clause-told c =
@@ -39,7 +39,7 @@ returns-then-not-record_known-clause-told c =
     let d : Piped = c.index-pipelines-i.result in
     let i : ℕ = c.loop-i.i in
     let here : is_known_at n l (part_of (get_or old i d)) ≡ false =
-    (λ j. is_known_at n (sym c.hashed_for-given.ensures j) (part_of (sym (c.loop-i.invariant.done.rest i (omega arith) d) j))) ∙ (sym c.record_known.ensures.told ∙ c.if-not-record_known.true) in
+    (λ j. is_known_at n l (part_of (sym (c.loop-i.invariant.done.rest i (omega arith) d) j))) ∙ (sym c.record_known.ensures.told ∙ c.if-not-record_known.true) in
     sym (list_all-map (is_known_at n l) part_of old ∙ list_all_at (λ (p : Piped). is_known_at n l (part_of p)) old i d c.loop-i-test.true here)
 
 pub returns-then-not-record_known-clause-idle : goal.returns-then-not-record_known-clause-idle
@@ -60,10 +60,10 @@ loop-i-preserved c =
     let so_far = c.loop-i.invariant in
     let same : get_or new i d ≡ get_or old i d = so_far.done.rest i (omega arith) d in
     let here : is_known_at n l (part_of (get_or old i d)) ≡ true =
-    (λ j. is_known_at n (sym c.hashed_for-given.ensures j) (part_of (sym same j))) ∙ (sym c.record_known.ensures.told ∙ c.if-not-record_known.false) in
+    (λ j. is_known_at n l (part_of (sym same j))) ∙ (sym c.record_known.ensures.told ∙ c.if-not-record_known.false) in
     let made : part_of c.record_known.new.self ≡ part_after_each n vs l (part_of (get_or old i d)) =
-    c.record_known.ensures.made c.if-not-record_known.false ∙ λ j. part_after_each n vs (c.hashed_for-given.ensures j) (part_of (same j)) in
-    let placed : Placed n l (get_or old i d) = subst (Placed n l) same (rw c.hashed_for-given.ensures at c.record_known.ensures.placed c.if-not-record_known.false) in
+    c.record_known.ensures.made c.if-not-record_known.false ∙ λ j. part_after_each n vs l (part_of (same j)) in
+    let placed : Placed n l (get_or old i d) = subst (Placed n l) same (c.record_known.ensures.placed c.if-not-record_known.false) in
     record {
       known = list_all_more (λ (p : Piped). is_known_at n l (part_of p)) old i d c.loop-i-test.true ∙ λ j. so_far.known j && here j;
       placed = subst (EachOf (Placed n l)) (sym (take_more old i d c.loop-i-test.true)) (each_push (Placed n l) (take i old) (get_or old i d) so_far.placed placed);

@@ -7,6 +7,7 @@ use otel_aggregate::aggregators::assign::Assign;
 use otel_aggregate::aggregators::buckets::{Buckets, BucketsConfig};
 use otel_common::bounds::is_rising;
 use otel_common::faults::Fault;
+use otel_data::numbers::NumberValue;
 use std::alloc::Global;
 use std::process::Abort;
 
@@ -97,9 +98,9 @@ fn bounds_have_buckets(rt: HostRuntime) {
     let bounds = bounds(rt.alloc(), "1 3").expect(&rt, "two bounds");
     assert!(rt; bounds.as_slice() == [1, 3].as_slice());
     assert!(rt; bounds.number_of_buckets() == 3);
-    assert!(rt; bounds.bucket_of(1) == 0);
-    assert!(rt; bounds.bucket_of(2) == 1);
-    assert!(rt; bounds.bucket_of(170141183460469231731687303715884105727) == 2);
+    assert!(rt; bounds.bucket_of(NumberValue::I64(1)) == 0);
+    assert!(rt; bounds.bucket_of(NumberValue::U64(2)) == 1);
+    assert!(rt; bounds.bucket_of(NumberValue::U64(u64::MAX)) == 2);
     let shared = bounds.share().expect(&rt, "another owner");
     assert!(rt; shared.as_slice() == [1, 3].as_slice());
 }

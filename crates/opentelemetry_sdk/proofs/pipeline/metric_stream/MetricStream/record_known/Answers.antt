@@ -1,14 +1,12 @@
-use Rattle.std.proofs.Common.{rules, ◌≡◌, ◌∙◌, sym, ap, arith, drop, drop-cons, get_or, suc, add-one, Some}
-use Rattle.std.proofs.lemmas.List.{drop_all}
+use Rattle.std.proofs.Common.{rules, ◌≡◌, ◌∙◌, sym, ap, subst, Some}
 use Rattle.otel_aggregate.specs.Streams.{AggregateContents}
-use Rattle.otel_data.specs.declared.numbers.NumberValue.TheVariants.{U64}
 use Rattle.otel_model.specs.Sent.{set_for}
 use Rattle.otel_model_stream.specs.Maps.{bound_to}
 use Rattle.otel_model_stream.specs.Sets.{set_of}
 use Rattle.opentelemetry_sdk.specs.pipeline.Known.{is_known_to}
-use Rattle.opentelemetry_sdk.specs.pipeline.Streams.{StreamContents, contents_of, contents_after_each, used_for, without_pending}
+use Rattle.opentelemetry_sdk.specs.pipeline.Streams.{IsAsked, StreamContents, contents_of, contents_after_each, used_for, without_pending}
 use Rattle.opentelemetry_sdk.proofs.pipeline.Batches.{each-settled}
-use Rattle.opentelemetry_sdk.proofs.pipeline.Settled.{IsKept, kept-made, kept-still, placed-known, prepared-asked, prepared-pending, prepared-same}
+use Rattle.opentelemetry_sdk.proofs.pipeline.Settled.{IsKept, each-made, each-still, kept-placed, placed-known, prepared-asked, prepared-pending, prepared-same}
 use Rattle.opentelemetry_sdk.proofs.pipeline.metric_stream.MetricStream.record_known.Goals as goal
 use Rattle.opentelemetry_sdk.proofs.pipeline.metric_stream.MetricStream.record_known.Goals.{Else-not-has_entry}
 
@@ -29,27 +27,15 @@ kept c =
       pending = pending;
     }
 
-pub loop-value-init : goal.loop-value-init
-loop-value-init c = record {
-  kept = kept (goal.at.loop-value-init c).Else-not-has_entry;
-  left = ap (contents_after_each c.args.values.now c.args.attributes.now) (same (goal.at.loop-value-init c).Else-not-has_entry);
+pub commit_each-requires : goal.commit_each-requires
+commit_each-requires c = record {
+  there = kept-placed c.args.attributes.now c.self.inside.demand c.prepare.new.self (kept (goal.at.commit_each-requires c).Else-not-has_entry);
+  alike = c.requires;
 }
 
-pub loop-value-preserved : goal.loop-value-preserved
-loop-value-preserved c =
-    let l = c.args.attributes.now in
-    let vs = c.args.values.now in
-    let i = c.loop-value.value-index in
-    let d = c.loop-value.self-inside.demand in
-    let a : AggregateContents = c.loop-value.self-inside.aggregate in
-    let value = get_or vs i (U64 0) in
-    record {
-      kept = kept-still l d a c.loop-value.invariant.kept value c.commit_kept.new.self c.commit_kept.ensures.taken;
-      left = rw add-one
-          (ap (contents_after_each (drop (suc i) vs) l) (kept-made l d a c.loop-value.invariant.kept value c.commit_kept.new.self c.commit_kept.ensures.taken)
-          ∙ ap (λ ws. contents_after_each ws l (without_pending (contents_of d a))) (sym (drop-cons vs i (U64 0) c.loop-value-test.true))
-          ∙ c.loop-value.invariant.left);
-    }
+pub invariant_of-self-2 : goal.invariant_of-self-2
+invariant_of-self-2 c = subst (IsAsked c.self.inside.demand) (sym c.commit_each.ensures.taken)
+    (each-still c.args.attributes.now c.self.inside.demand c.args.values.now c.prepare.new.self (kept (goal.at.invariant_of-self-2 c).Else-not-has_entry)).asked
 
 pub returns-clause-told : goal.returns-clause-told
 returns-clause-told c =
@@ -58,6 +44,10 @@ returns-clause-told c =
 
 pub returns-clause-made : goal.returns-clause-made
 returns-clause-made c = λ told.
-    sym (ap (λ ws. contents_after_each ws c.args.attributes.now (without_pending (contents_of c.loop-value.self-inside.demand c.loop-value.self-inside.aggregate))) (drop_all c.loop-value.value-index c.args.values.now (omega (arith, c.loop-value-test.false))))
-    ∙ c.loop-value.invariant.left
-    ∙ sym (each-settled c.args.attributes.now c.args.values.now c.args.self.now)
+    (let at = (goal.at.returns-clause-made c).Else-not-has_entry in
+    let l = c.args.attributes.now in
+    let vs = c.args.values.now in
+    ap (λ (a : AggregateContents). without_pending (contents_of c.self.inside.demand a)) c.commit_each.ensures.taken
+    ∙ each-made l c.self.inside.demand vs c.prepare.new.self (kept at)
+    ∙ ap (contents_after_each vs l) (same at)
+    ∙ sym (each-settled l vs c.args.self.now))

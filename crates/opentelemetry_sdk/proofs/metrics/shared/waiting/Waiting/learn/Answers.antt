@@ -36,11 +36,11 @@ invariant_of-self-in-Ok c = (
   c.self.invariant.0,
   rw (added c, length_push (keys c.self.inside.series) (new c)) (has-grown (length (keys c.self.inside.series)) c.self.inside.records.items c.self.invariant.1),
   subst (AllByRecursion IsListOf) (sym (pushed c)) (each_push IsListOf c.self.inside.series.entries (new c, c.in_ok-attributes.shared) c.self.invariant.2 c.in_ok-attributes.ensures.list.1),
-  tt,
+  (λ none. tt),
 )
 
 pub invariant_of-self-2 : goal.invariant_of-self-2
-invariant_of-self-2 c = rw (c.in-Err.ensures.err) (c.self.invariant.0, c.self.invariant.1, c.self.invariant.2, tt)
+invariant_of-self-2 c = rw (c.in-Err.ensures.err) (c.self.invariant.0, c.self.invariant.1, c.self.invariant.2, (λ none. tt))
 
 pub returns-in-Ok-clause-placed : goal.returns-in-Ok-clause-placed
 returns-in-Ok-clause-placed c =

@@ -12,7 +12,7 @@ invariant_of-self-in-Plain c = rw (keys-with_value_at c.self.inside.series c.in-
   omega (arith, ltb-true _ _ (sym c.in_ok-first.ensures.lookup.0), ap length c.deref.ensures.value),
   c.self.invariant.1,
   lists-kept c.self.inside.series.entries c.in-Plain.place c.in_ok-list-in-Plain.list.now c.share.new.self (sym c.in_ok-list-in-Plain.ensures.value) c.share.ensures.kept c.self.invariant.2,
-  tt,
+  (λ none. absurd (omega arith)),
 )
 
 -- the record is of the series at its place, whose list is shared
