@@ -385,6 +385,44 @@ const BATCHES: &[Case] = &[
                 point m g gauge 100 300 b=i:1 -3\n\
                 point m g gauge 100 300 otel.metric.overflow=b:true 8\n",
     },
+    // A histogram of two sets: a bound is in the bucket below it, and the sum is modulo 2^64.
+    Case {
+        name: "histogram_of_a_batch",
+        script: "reader cumulative\n\
+                 go\n\
+                 meter m\n\
+                 build 0 u64_histogram h 100 bounds=0,5,10\n\
+                 record 0 u:4 a=i:1\n\
+                 record 0 u:6 a=i:2\n\
+                 collect 0 200\n\
+                 record 0 u:3 a=i:1\n\
+                 record 0 u:5 a=i:1\n\
+                 record 0 u:10 a=i:2\n\
+                 record 0 u:7 a=i:1\n\
+                 record 0 u:9223372036854775808 a=i:1\n\
+                 record 0 u:18446744073709551615 a=i:1\n\
+                 record 0 u:11 a=i:2\n\
+                 record 0 u:0 a=i:1\n\
+                 collect 0 300\n",
+        lines: "meter 0\n\
+                instrument 0\n\
+                ok\n\
+                ok\n\
+                collected 2\n\
+                point m h histogram cumulative 100 200 a=i:1 1 4 4 4 0,1,0,0\n\
+                point m h histogram cumulative 100 200 a=i:2 1 6 6 6 0,0,1,0\n\
+                ok\n\
+                ok\n\
+                ok\n\
+                ok\n\
+                ok\n\
+                ok\n\
+                ok\n\
+                ok\n\
+                collected 2\n\
+                point m h histogram cumulative 100 300 a=i:1 7 9223372036854775826 0 18446744073709551615 1,3,1,2\n\
+                point m h histogram cumulative 100 300 a=i:2 3 27 6 11 0,0,2,1\n",
+    },
     // Twelve records of one series at two readers. The delta reader starts again: nothing of the batch is left there.
     Case {
         name: "two_readers",
