@@ -193,15 +193,16 @@ case_named() {
     esac
     case $1 in
         *_submit) counted=counted_submit ;;
+        *_group) counted=counted_group ;;
         *) counted="counted_calls counted_adds counted_bound_adds counted_worker_adds counted_worker_records counted_worker_series_adds counted_worker_bound_adds counted_group counted_submit counted_expositions counted_lines" ;;
     esac
     case ${1#typed_} in
         known0) known $counter - - "$one" ;;
         known1) known $counter "$(attributes 0)" "$(attributes 0)" "$one" ;;
-        known4 | worker4 | worker4_submit | worker_lists | worker_series4* | worker_bound4*)
+        known4 | worker4 | worker4_submit | worker_lists | worker_series4 | worker_series4_submit | worker_bound4*)
             known $counter "$rising" "$rising" "$one"
             ;;
-        worker4_ten*) known_sets $counter 10 "$one" ;;
+        worker4_ten* | worker_series4_ten*) known_sets $counter 10 "$one" ;;
         worker4_hundred*) known_sets $counter 100 "$one" ;;
         worker4_two_readers*) known_sets $counter 10 "$one" "$one" ;;
         worker_histogram4*) known_sets u64_histogram 10 "$one" ;;
@@ -347,8 +348,8 @@ for name in worker4 worker4_submit worker4_ten worker4_ten_submit worker4_hundre
     worker_series4_submit worker_bound4 worker_bound4_submit; do
     row $name 10 60 100
 done
-for name in worker4_ten_long worker4_ten_long_submit worker4_two_readers_submit worker_histogram4_submit \
-    worker_gauge4_submit; do
+for name in worker4_ten_long worker4_ten_long_submit worker4_ten_long_group worker_series4_ten \
+    worker_series4_ten_submit worker4_two_readers_submit worker_histogram4_submit worker_gauge4_submit; do
     row $name 10 60 1000
 done
 for name in end2000 end4000 end8000; do

@@ -9,6 +9,7 @@ pub mod Identities
 pub mod KeptRuns
 pub mod KnownRuns
 pub mod Lists
+pub mod Preparing
 pub mod Reached
 pub mod SeriesLemmas
 pub mod Sound

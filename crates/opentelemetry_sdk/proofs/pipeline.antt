@@ -11,6 +11,7 @@ pub mod Feeds
 pub mod DemandLemmas
 pub mod PipelineLemmas
 pub mod PipelinesLemmas
+pub mod Prepared
 pub mod Meets
 pub mod Places
 pub mod Records

@@ -9,12 +9,13 @@ ghost use Rattle.opentelemetry_sdk.specs.pipeline.Collections.{IsCollectedFrom};
 ghost use Rattle.opentelemetry_sdk.specs.pipeline.Handles.{AreObservableFor, StandsFor};
 ghost use Rattle.opentelemetry_sdk.specs.pipeline.Known.{is_known_at};
 ghost use Rattle.opentelemetry_sdk.specs.pipeline.Observations.{AreTypedFor, observed_of};
-ghost use Rattle.opentelemetry_sdk.specs.pipeline.Pipelines.{part_of, part_after_each, has_stream_at, number_of, FeedsType, IsLawful, IsReadyFor};
-ghost use Rattle.otel_aggregate.specs.Any.{is_signed_value, HaveOneType};
+ghost use Rattle.opentelemetry_sdk.specs.pipeline.Pipelines.{part_of, changed_by, has_stream_at, number_of, FeedsType, IsAlike, IsLawful, IsReadyFor};
+ghost use Rattle.opentelemetry_sdk.specs.pipeline.Streams.{contents_after, contents_prepared};
+ghost use Rattle.otel_aggregate.specs.Any.{is_signed_value};
 
 use crate::pipeline::about::About;
 use crate::pipeline::change::Change;
-use crate::pipeline::each_stream::{change_each, prepare_each, record_known_each, streams_fed};
+use crate::pipeline::each_stream::{change_each, prepare_each, prepare_known_each, streams_fed};
 use crate::pipeline::metric_stream::MetricStream;
 use crate::pipeline::observing::collect_observed;
 use indexmap::IndexSet;
@@ -149,8 +150,11 @@ impl Pipeline {
     /// Carries a change out in the streams that the instrument feeds, and returns the place of the handle that it bound in
     /// one of them; 0 if it bound none. Takes no memory, and looks no set up.
     #[inline(always)]
-    pub fn change(&mut self, instrument: usize, change: Change) -> usize
-        ensures { (next : ℕ) (call : model.Call) → StandsFor instrument change next call self.old → part_of self.new ≡ part_after_call next call (part_of self.old) }
+    pub fn change(&mut self, instrument: usize, change: Change<'_>) -> usize
+        requires { IsAlike change }
+        ensures streams { self.new ≡ changed_by (contents_after change.entry) instrument self.old }
+        ensures lawful { IsLawful self.old }
+        ensures part { (next : ℕ) (call : model.Call) → StandsFor instrument change.entry next call self.old → part_of self.new ≡ part_after_call next call (part_of self.old) }
     {
         self.law_of_identities();
         let feeds = streams_fed(&self.feeds, instrument);
@@ -203,25 +207,17 @@ impl Pipeline {
         Ok(())
     }
 
-    /// Takes in records of these values with the attributes in the streams that the instrument feeds, if they all know the
-    /// attributes, and answers whether they do. If one doesn't, others may have taken the records in; without values nothing
-    /// changes.
-    pub fn record_known(
-        &mut self,
-        instrument: usize,
-        values: &[NumberValue],
-        attributes: &GivenAttributes,
-    ) -> bool
-        requires typed { EachOf (λ v. FeedsType instrument (is_signed_value v) (part_of self.old)) values.now }
-        requires alike { HaveOneType values.now }
-        ensures told { result ≡ is_known_at instrument attributes.now (part_of self.old) }
+    /// Prepares a record with these attributes in the streams that the instrument feeds, beside those that are prepared, if
+    /// the streams know the attributes, and answers whether they all do. What the reader has stays unchanged.
+    pub fn prepare_known(&mut self, instrument: usize, attributes: &GivenAttributes) -> bool
+        ensures ready { result ≡ true → self.new ≡ changed_by (contents_prepared attributes.now) instrument self.old }
+        ensures known { result ≡ true → is_known_at instrument attributes.now (part_of self.old) ≡ true }
         ensures placed { result ≡ true → EachOf (IsPlaced (part_of self.old).feeds (Listed instrument attributes.now)) (part_of self.old).streams }
-        ensures made { result ≡ true → part_of self.new ≡ part_after_each instrument values.now attributes.now (part_of self.old) }
-        ensures idle { values.now ≡ [] → part_of self.new ≡ part_of self.old }
+        ensures same { part_of self.new ≡ part_of self.old }
     {
         self.law_of_identities();
         let feeds = streams_fed(&self.feeds, instrument);
-        record_known_each(&mut self.streams, feeds, values, attributes)
+        prepare_known_each(&mut self.streams, feeds, attributes)
     }
 
     /// Takes in what was observed, and makes a collection at the moment `now`, in nanoseconds since 1970, for the

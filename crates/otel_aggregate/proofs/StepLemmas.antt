@@ -1,5 +1,5 @@
 -- What a map's steps leave of what is known of its handles.
-use Rattle.std.proofs.Common.{◌≡◌, ℕ, Bool, true, false, cond, not, ◌&&◌, ◌||◌, ◌+◌, List, [], ◌∷◌, ◌++◌, fold, Option, Some, None, Result, Ok, Err, ◌⊎◌, inl, inr, is_some, refl, sym, ap, subst, ◌∙◌, nat_eq, true≢false}
+use Rattle.std.proofs.Common.{◌≡◌, ℕ, Bool, true, false, cond, not, ◌&&◌, ◌||◌, ◌+◌, List, [], ◌∷◌, ◌++◌, drop, fold, Option, Some, None, Result, Ok, Err, ◌⊎◌, inl, inr, is_some, refl, sym, ap, subst, ◌∙◌, nat_eq, true≢false}
 use Rattle.std.specs.Prelude.{IsSome, OnOk, OnErr, is_none, ◌==◌}
 use Rattle.std.specs.Bool.{beq}
 use Rattle.std.specs.List.{AllByRecursion, list_all}
@@ -17,10 +17,10 @@ use Rattle.otel_model_stream.specs.Events.{Handles, held_by, without}
 use Rattle.otel_model_stream.specs.Entries.{Table, entry_for, place, points, take_handle}
 use Rattle.otel_model_stream.specs.Maps.{MapState, KnownMap, measured_map, measured_list, bound_map, bound_to, drained_map, updated_bound, unbound_map, evicted_map}
 use Rattle.otel_model_stream.specs.Totals.{size, points_total}
-use Rattle.otel_aggregate.specs.value_map.Contents.{MapContents, known_of}
+use Rattle.otel_aggregate.specs.value_map.Contents.{MapContents, known_of, next_of}
 use Rattle.otel_aggregate.specs.value_map.Numbers.{Numbers, number_of, set_named, is_placed, KeepNumbers, AreNamed, AreNumbered}
 use Rattle.otel_aggregate.specs.Links.{Link, Linked, handle_of, handles_of, IsLinked, AreHeld}
-use Rattle.otel_aggregate.specs.Any.{amount_of, any_after_collection, any_after_commits, form_of, is_signed_value, observed_in, samples_of, with_observed, HaveOneType}
+use Rattle.otel_aggregate.specs.Any.{amount_of, any_after_collection, any_after_commits, any_with_commits, form_of, is_signed_value, observed_in, samples_of, with_observed, HaveOneType}
 use Rattle.otel_aggregate.specs.Kept.{IsKeptMap, IsKeptStream, IsWithin}
 use Rattle.otel_aggregate.specs.Observed.{drained_at}
 use Rattle.otel_aggregate.specs.Streams.{AggregateContents, points_now, recorded_set, recorded_attributes, taken_from, stream_after_commit, bind_of, stream_after_bind, update_at, stream_after_update, unbind_at, stream_after_unbind}
@@ -80,46 +80,46 @@ pub if-undrained : {X : Type 0} {b : Bool} {new x : X} (old : X) → b ≡ false
 if-undrained {X} {b} {new} {x} old e is = is ∙ sym (ap (λ t. cond t old x) e)
 
 -- once the record that was prepared is made
-pub taken-made : {s old : AggregateContents} → s ≡ old → (v : Amount) (w : Sample) (after : MapState) (live : Handles) (pending : Option AttributeSet) (total : ℕ) → IsSome s.pending → w ≡ sample_of s.state.aggregate v
-    → ((x : AttributeSet) → s.pending ≡ Some x → after ≡ measured_map x w s.state.map_state) → live ≡ s.live → pending ≡ None → total ≡ wrap (s.state.recorded + size s.state.aggregate v)
+pub taken-made : {s old : AggregateContents} → s ≡ old → (v : Amount) (w : Sample) (after : MapState) (live : Handles) (pending : List AttributeSet) (total : ℕ) → IsSome (next_of s.pending) → w ≡ sample_of s.state.aggregate v
+    → ((x : AttributeSet) → next_of s.pending ≡ Some x → after ≡ measured_map x w s.state.map_state) → live ≡ s.live → pending ≡ [] → total ≡ wrap (s.state.recorded + size s.state.aggregate v)
     → record s { state = record s.state { map_state = after; recorded = total }; live = live; pending = pending } ≡ stream_after_commit v old
-taken-made {s} {old} was v w after live pending total some sampled is same spent counted = by s.pending refl some ∙ ap (stream_after_commit v) was
+taken-made {s} {old} was v w after live pending total some sampled is same spent counted = by (next_of s.pending) refl some ∙ ap (stream_after_commit v) was
   where
-    by : (o : Option AttributeSet) → s.pending ≡ o → IsSome o → record s { state = record s.state { map_state = after; recorded = total }; live = live; pending = pending } ≡ stream_after_commit v s
+    by : (o : Option AttributeSet) → next_of s.pending ≡ o → IsSome o → record s { state = record s.state { map_state = after; recorded = total }; live = live; pending = pending } ≡ stream_after_commit v s
     by None e t = absurd (true≢false (sym t))
     by (Some x) e t =
         (λ i. record s { state = record s.state { map_state = (is x e ∙ ap (λ z. measured_map x z s.state.map_state) sampled) i; recorded = counted i }; live = same i; pending = spent i })
         ∙ sym (ap (λ o. taken_from o v s) e)
 
 -- once a record of attributes is made where there is no allow-list
-pub listed-made : {s old : AggregateContents} → s ≡ old → (v : Amount) (w : Sample) (l : List KeyValue) (before after : MapContents) (live : Handles) (pending : Option AttributeSet) (total : ℕ) → is_some s.state.allow ≡ false → before.state ≡ s.state.map_state
-    → w ≡ sample_of s.state.aggregate v → known_of after ≡ measured_list l w (known_of before) → live ≡ s.live → pending ≡ None → total ≡ wrap (s.state.recorded + size s.state.aggregate v)
-    → record s { state = record s.state { map_state = after.state; recorded = total }; live = live; pending = pending } ≡ record old { state = recorded_attributes l v old.state; pending = None }
+pub listed-made : {s old : AggregateContents} → s ≡ old → (v : Amount) (w : Sample) (l : List KeyValue) (before after : MapContents) (live : Handles) (pending : List AttributeSet) (total : ℕ) → is_some s.state.allow ≡ false → before.state ≡ s.state.map_state
+    → w ≡ sample_of s.state.aggregate v → known_of after ≡ measured_list l w (known_of before) → live ≡ s.live → pending ≡ [] → total ≡ wrap (s.state.recorded + size s.state.aggregate v)
+    → record s { state = record s.state { map_state = after.state; recorded = total }; live = live; pending = pending } ≡ record old { state = recorded_attributes l v old.state; pending = [] }
 listed-made {s} {old} was v w l before after live pending total whole at sampled is same spent counted =
     (λ i. record s { state = record s.state { map_state = map_is i; recorded = counted i }; live = same i; pending = spent i })
     ∙ by s.state.allow whole
-    ∙ ap (λ (x : AggregateContents). record x { state = recorded_attributes l v x.state; pending = None }) was
+    ∙ ap (λ (x : AggregateContents). record x { state = recorded_attributes l v x.state; pending = [] }) was
   where
     map_is : after.state ≡ measured_map (canon l) (sample_of s.state.aggregate v) s.state.map_state
     map_is = ap (λ (k : KnownMap). k.map_state) is ∙ λ i. measured_map (canon l) (sampled i) (at i)
 
-    by : (allow : AllowList) → is_some allow ≡ false → record s { state = recorded_set (canon l) v s.state; pending = None } ≡ record s { state = recorded_set (set_of allow l) v s.state; pending = None }
+    by : (allow : AllowList) → is_some allow ≡ false → record s { state = recorded_set (canon l) v s.state; pending = [] } ≡ record s { state = recorded_set (set_of allow l) v s.state; pending = [] }
     by None e = refl
     by (Some keys) e = absurd (true≢false e)
 
 -- and one that is refused
-pub listed-refused : {s old : AggregateContents} → s ≡ old → (before after : MapContents) (live : Handles) (pending : Option AttributeSet) → before.state ≡ s.state.map_state → known_of after ≡ known_of before → live ≡ s.live → pending ≡ None
-    → record s { state = record s.state { map_state = after.state }; live = live; pending = pending } ≡ record old { pending = None }
+pub listed-refused : {s old : AggregateContents} → s ≡ old → (before after : MapContents) (live : Handles) (pending : List AttributeSet) → before.state ≡ s.state.map_state → known_of after ≡ known_of before → live ≡ s.live → pending ≡ []
+    → record s { state = record s.state { map_state = after.state }; live = live; pending = pending } ≡ record old { pending = [] }
 listed-refused {s} {old} was before after live pending at is same spent =
     (λ i. record s { state = record s.state { map_state = (ap (λ (k : KnownMap). k.map_state) is ∙ at) i }; live = same i; pending = spent i })
-    ∙ ap (λ (x : AggregateContents). record x { pending = None }) was
+    ∙ ap (λ (x : AggregateContents). record x { pending = [] }) was
 
 -- once a stream that resets has ended a collection
-pub collected-made : {s old : AggregateContents} → s ≡ old → (now : ℕ) (after : MapState) (live : Handles) (pending : Option AttributeSet) (total : ℕ) → s.drains ≡ false → s.state.resets ≡ true → after ≡ evicted_map s.state.map_state → live ≡ s.live → pending ≡ None
+pub collected-made : {s old : AggregateContents} → s ≡ old → (now : ℕ) (after : MapState) (live : Handles) (pending : List AttributeSet) (total : ℕ) → s.drains ≡ false → s.state.resets ≡ true → after ≡ evicted_map s.state.map_state → live ≡ s.live → pending ≡ []
     → total ≡ wrap (s.state.exported + points_total (points false s.state.map_state.table)) → record s { state = record s.state { map_state = after; start = now; exported = total }; live = live; pending = pending } ≡ any_after_collection now old
 collected-made {s} {old} was now after live pending total undrained resets is same spent counted =
     (λ i. record s { state = record s.state { map_state = is i; start = now; exported = (counted ∙ ap (λ b. wrap (s.state.exported + points_total (points (not b) s.state.map_state.table))) (sym resets)) i }; live = same i; pending = spent i })
-    ∙ sym (λ i. record (by_drains (undrained i) (resets i)) { pending = cond (undrained i || resets i) None s.pending })
+    ∙ sym (λ i. record (by_drains (undrained i) (resets i)) { pending = cond (undrained i || resets i) [] s.pending })
     ∙ ap (any_after_collection now) was
   where
     by_drains : Bool → Bool → AggregateContents
@@ -188,8 +188,8 @@ module _ (old new : Numbers) (before after : MapState) (ps : List Link) (h n : �
   bound-prepared None qs some is number added = absurd (true≢false (sym some))
   bound-prepared (Some s) qs some is number added = subst (λ (rs : List Link). IsBound before after (Some s) (handles_of old ps) new rs h) (sym added) (bound-set s (is s refl) (number s refl))
 
-pub bind-made : {s old : AggregateContents} → s ≡ old → (h : ℕ) (after : MapState) (new : Numbers) (links : List Link) (pending : Option AttributeSet) → s.room ≡ true → held_by h s.live ≡ None → pending ≡ None
-    → IsBound s.state.map_state after s.pending s.live new links h → record s { state = record s.state { map_state = after }; live = handles_of new links; pending = pending; room = false } ≡ stream_after_bind h old
+pub bind-made : {s old : AggregateContents} → s ≡ old → (h : ℕ) (after : MapState) (new : Numbers) (links : List Link) (pending : List AttributeSet) → s.room ≡ true → held_by h s.live ≡ None → pending ≡ []
+    → IsBound s.state.map_state after (next_of s.pending) s.live new links h → record s { state = record s.state { map_state = after }; live = handles_of new links; pending = pending; room = false } ≡ stream_after_bind h old
 bind-made {s} {old} was h after new links pending room away spent made =
     (λ i. record s { state = record s.state { map_state = made.state i }; live = made.handles i; pending = spent i; room = false })
     ∙ sym (λ i. cond (room i && is_none (away i)) (bind_of (made.prepared i) h s) s)
@@ -197,10 +197,10 @@ bind-made {s} {old} was h after new links pending room away spent made =
 
 -- a bind that isn't made
 pub no_bind-room : (s : AggregateContents) (h : ℕ) → s.room ≡ false → s ≡ stream_after_bind h s
-no_bind-room s h e = ap (λ b. cond (b && is_none (held_by h s.live)) (bind_of s.pending h s) s) (sym e)
+no_bind-room s h e = ap (λ b. cond (b && is_none (held_by h s.live)) (bind_of (next_of s.pending) h s) s) (sym e)
 
-pub no_bind-prepared : (s : AggregateContents) (h : ℕ) → is_some s.pending ≡ false → s ≡ stream_after_bind h s
-no_bind-prepared s h e = by (s.room && is_none (held_by h s.live)) s.pending e
+pub no_bind-prepared : (s : AggregateContents) (h : ℕ) → is_some (next_of s.pending) ≡ false → s ≡ stream_after_bind h s
+no_bind-prepared s h e = by (s.room && is_none (held_by h s.live)) (next_of s.pending) e
   where
     by : (b : Bool) (o : Option AttributeSet) → is_some o ≡ false → s ≡ cond b (bind_of o h s) s
     by true None e = refl
@@ -210,7 +210,7 @@ no_bind-prepared s h e = by (s.room && is_none (held_by h s.live)) s.pending e
 pub no_bind-live : (s : AggregateContents) (h : ℕ) → is_some (held_by h s.live) ≡ true → s ≡ stream_after_bind h s
 no_bind-live s h e = by s.room (held_by h s.live) e
   where
-    by : (b : Bool) (o : Option AttributeSet) → is_some o ≡ true → s ≡ cond (b && is_none o) (bind_of s.pending h s) s
+    by : (b : Bool) (o : Option AttributeSet) → is_some o ≡ true → s ≡ cond (b && is_none o) (bind_of (next_of s.pending) h s) s
     by true None e = absurd (true≢false (sym e))
     by true (Some g) e = refl
     by false o e = refl
@@ -225,33 +225,33 @@ without-none h (p ∷ hs) e = by (p.0 == h) e (without-none h hs)
     by true e ih = absurd (cc)
     by false e ih = ap (λ (rs : Handles). p ∷ rs) (ih e)
 
-pub update-made : {s old : AggregateContents} → s ≡ old → (h : ℕ) (g : AttributeSet) (v : Amount) (w : Sample) (after : MapState) (live : Handles) (pending : Option AttributeSet) (total : ℕ) → held_by h s.live ≡ Some g → w ≡ sample_of s.state.aggregate v
-    → after ≡ updated_bound g w s.state.map_state → live ≡ s.live → pending ≡ None → total ≡ wrap (s.state.recorded + size s.state.aggregate v)
+pub update-made : {s old : AggregateContents} → s ≡ old → (h : ℕ) (g : AttributeSet) (v : Amount) (w : Sample) (after : MapState) (live : Handles) (pending : List AttributeSet) (total : ℕ) → held_by h s.live ≡ Some g → w ≡ sample_of s.state.aggregate v
+    → after ≡ updated_bound g w s.state.map_state → live ≡ s.live → pending ≡ [] → total ≡ wrap (s.state.recorded + size s.state.aggregate v)
     → record s { state = record s.state { map_state = after; recorded = total }; live = live; pending = pending } ≡ stream_after_update h v old
 update-made {s} {old} was h g v w after live pending total found sampled is same spent counted =
     (λ i. record s { state = record s.state { map_state = (is ∙ ap (λ x. updated_bound g x s.state.map_state) sampled) i; recorded = counted i }; live = same i; pending = spent i })
-    ∙ sym (λ i. record s { state = update_at (found i) v s.state; pending = None })
+    ∙ sym (λ i. record s { state = update_at (found i) v s.state; pending = [] })
     ∙ ap (stream_after_update h v) was
 
-pub update-none : {s old : AggregateContents} → s ≡ old → (h : ℕ) (v : Amount) (after : MapState) (live : Handles) (pending : Option AttributeSet) → held_by h s.live ≡ None → after ≡ s.state.map_state → live ≡ s.live → pending ≡ None
+pub update-none : {s old : AggregateContents} → s ≡ old → (h : ℕ) (v : Amount) (after : MapState) (live : Handles) (pending : List AttributeSet) → held_by h s.live ≡ None → after ≡ s.state.map_state → live ≡ s.live → pending ≡ []
     → record s { state = record s.state { map_state = after }; live = live; pending = pending } ≡ stream_after_update h v old
 update-none {s} {old} was h v after live pending found is same spent =
     (λ i. record s { state = record s.state { map_state = is i }; live = same i; pending = spent i })
-    ∙ sym (λ i. record s { state = update_at (found i) v s.state; pending = None })
+    ∙ sym (λ i. record s { state = update_at (found i) v s.state; pending = [] })
     ∙ ap (stream_after_update h v) was
 
-pub unbind-made : {s old : AggregateContents} → s ≡ old → (h : ℕ) (g : AttributeSet) (after : MapState) (live : Handles) (pending : Option AttributeSet) → held_by h s.live ≡ Some g → after ≡ unbound_map g s.state.map_state → live ≡ without h s.live → pending ≡ None
+pub unbind-made : {s old : AggregateContents} → s ≡ old → (h : ℕ) (g : AttributeSet) (after : MapState) (live : Handles) (pending : List AttributeSet) → held_by h s.live ≡ Some g → after ≡ unbound_map g s.state.map_state → live ≡ without h s.live → pending ≡ []
     → record s { state = record s.state { map_state = after }; live = live; pending = pending } ≡ stream_after_unbind h old
 unbind-made {s} {old} was h g after live pending found is same spent =
     (λ i. record s { state = record s.state { map_state = is i }; live = same i; pending = spent i })
-    ∙ sym (λ i. record s { state = unbind_at (found i) s.state; live = without h s.live; pending = None })
+    ∙ sym (λ i. record s { state = unbind_at (found i) s.state; live = without h s.live; pending = [] })
     ∙ ap (stream_after_unbind h) was
 
-pub unbind-none : {s old : AggregateContents} → s ≡ old → (h : ℕ) (after : MapState) (live : Handles) (pending : Option AttributeSet) → held_by h s.live ≡ None → after ≡ s.state.map_state → live ≡ s.live → pending ≡ None
+pub unbind-none : {s old : AggregateContents} → s ≡ old → (h : ℕ) (after : MapState) (live : Handles) (pending : List AttributeSet) → held_by h s.live ≡ None → after ≡ s.state.map_state → live ≡ s.live → pending ≡ []
     → record s { state = record s.state { map_state = after }; live = live; pending = pending } ≡ stream_after_unbind h old
 unbind-none {s} {old} was h after live pending found is same spent =
     (λ i. record s { state = record s.state { map_state = is i }; live = (same ∙ sym (without-none h s.live found)) i; pending = spent i })
-    ∙ sym (λ i. record s { state = unbind_at (found i) s.state; live = without h s.live; pending = None })
+    ∙ sym (λ i. record s { state = unbind_at (found i) s.state; live = without h s.live; pending = [] })
     ∙ ap (stream_after_unbind h) was
 
 -- ======== records of several values ========
@@ -274,42 +274,42 @@ stream-commits {s} {now} seen x values was new live reported within made numbers
         (stream-recorded seen v w (record was { state = m }) (record was { state = measured_map x w m }) live reported all.0 refl (inr (x, inl refl)) (lead-same was.numbers was.numbers refl live.entries kept.0) kept)
 
 -- a stream of the other number type doesn't change
-pub commits-none : (values : List NumberValue) (a : AggregateContents) → HaveOneType values → list_all (λ value. beq (is_signed_value value) a.is_signed) values ≡ false → a ≡ any_after_commits values a
+pub commits-none : (values : List NumberValue) (a : AggregateContents) → HaveOneType values → list_all (λ value. beq (is_signed_value value) a.is_signed) values ≡ false → a ≡ any_with_commits values a
 commits-none values a one e = by (beq one.0 a.is_signed) refl
   where
     all : (vs : List NumberValue) → AllByRecursion (λ value. is_signed_value value ≡ one.0) vs → beq one.0 a.is_signed ≡ true → list_all (λ value. beq (is_signed_value value) a.is_signed) vs ≡ true
     all [] h q = refl
     all (v ∷ vs) h q = λ i. (ap (λ b. beq b a.is_signed) h.0 ∙ q) i && all vs h.1 q i
 
-    none : (vs : List NumberValue) → AllByRecursion (λ value. is_signed_value value ≡ one.0) vs → beq one.0 a.is_signed ≡ false → a ≡ any_after_commits vs a
+    none : (vs : List NumberValue) → AllByRecursion (λ value. is_signed_value value ≡ one.0) vs → beq one.0 a.is_signed ≡ false → a ≡ any_with_commits vs a
     none [] h q = refl
     none (v ∷ vs) h q =
         none vs h.1 q
-        ∙ ap (any_after_commits vs) (sym (ap (λ b. record (cond b (stream_after_commit (amount_of v) a) a) { pending = a.pending }) (ap (λ b. beq b a.is_signed) h.0 ∙ q)))
+        ∙ ap (any_with_commits vs) (sym (ap (λ b. record (cond b (stream_after_commit (amount_of v) a) a) { pending = a.pending }) (ap (λ b. beq b a.is_signed) h.0 ∙ q)))
 
-    by : (b : Bool) → beq one.0 a.is_signed ≡ b → a ≡ any_after_commits values a
+    by : (b : Bool) → beq one.0 a.is_signed ≡ b → a ≡ any_with_commits values a
     by true q = absurd (true≢false (sym (all values one.1 q) ∙ e))
     by false q = none values one.1 q
 
 -- and one of theirs takes them in
-commits-made : (x : AttributeSet) (values : List NumberValue) (a : AggregateContents) → a.pending ≡ Some x → list_all (λ value. beq (is_signed_value value) a.is_signed) values ≡ true
+commits-made : (x : AttributeSet) (values : List NumberValue) (a : AggregateContents) → next_of a.pending ≡ Some x → list_all (λ value. beq (is_signed_value value) a.is_signed) values ≡ true
     → record a {
       state = record a.state {
         map_state = fold (λ (m : MapState) (v : Sample). measured_map x v m) a.state.map_state (samples_of a.state.aggregate values);
         recorded = fold (λ (n : ℕ) (value : NumberValue). wrap (n + size a.state.aggregate (amount_of value))) a.state.recorded values;
       };
-    } ≡ any_after_commits values a
+    } ≡ any_with_commits values a
 commits-made x [] a e all = refl
 commits-made x (v ∷ vs) a e all =
     let parts = and_parts (beq (is_signed_value v) a.is_signed) (list_all (λ value. beq (is_signed_value value) a.is_signed) vs) all in
     commits-made x vs (record a { state = recorded_set x (amount_of v) a.state }) e parts.1
-    ∙ ap (any_after_commits vs) (sym ((λ i. record (cond (parts.0 i) (taken_from (e i) (amount_of v) a) a) { pending = a.pending })))
+    ∙ ap (any_with_commits vs) (sym ((λ i. record (cond (parts.0 i) (taken_from (e i) (amount_of v) a) a) { pending = a.pending })))
 
-pub commits-taken : {s old : AggregateContents} → s ≡ old → (x : AttributeSet) (values : List NumberValue) (after : MapState) (live : Handles) (pending : Option AttributeSet) (total : ℕ) → s.pending ≡ Some x
-    → list_all (λ value. beq (is_signed_value value) old.is_signed) values ≡ true → after ≡ fold (λ (m : MapState) (v : Sample). measured_map x v m) s.state.map_state (samples_of s.state.aggregate values) → live ≡ s.live → pending ≡ s.pending
+pub commits-taken : {s old : AggregateContents} → s ≡ old → (x : AttributeSet) (values : List NumberValue) (after : MapState) (live : Handles) (pending : List AttributeSet) (total : ℕ) → next_of s.pending ≡ Some x
+    → list_all (λ value. beq (is_signed_value value) old.is_signed) values ≡ true → after ≡ fold (λ (m : MapState) (v : Sample). measured_map x v m) s.state.map_state (samples_of s.state.aggregate values) → live ≡ s.live → pending ≡ drop 1 s.pending
     → total ≡ fold (λ (n : ℕ) (value : NumberValue). wrap (n + size s.state.aggregate (amount_of value))) s.state.recorded values
     → record s { state = record s.state { map_state = after; recorded = total }; live = live; pending = pending } ≡ any_after_commits values old
 commits-taken {s} {old} was x values after live pending total prepared typed is same kept counted =
     (λ i. record s { state = record s.state { map_state = is i; recorded = counted i }; live = same i; pending = kept i })
-    ∙ commits-made x values s prepared (ap (λ (a : AggregateContents). list_all (λ value. beq (is_signed_value value) a.is_signed) values) was ∙ typed)
+    ∙ ap (λ (a : AggregateContents). record a { pending = drop 1 s.pending }) (commits-made x values s prepared (ap (λ (a : AggregateContents). list_all (λ value. beq (is_signed_value value) a.is_signed) values) was ∙ typed))
     ∙ ap (any_after_commits values) was

@@ -1,5 +1,5 @@
 -- A stream with any aggregate and either number type.
-use Rattle.std.specs.Prelude.{ℕ, ℤ, pos, ◌≡◌, Bool, true, false, not, cond, ◌&&◌, ◌||◌, is_some, List, [], map, fold, None}
+use Rattle.std.specs.Prelude.{ℕ, ℤ, pos, ◌≡◌, Bool, true, false, not, cond, ◌&&◌, ◌||◌, is_some, List, [], drop, map, fold}
 use Rattle.std.specs.Bool.{beq}
 use Rattle.std.specs.List.{AllByRecursion}
 use Rattle.std.specs.Int.{cast_unsigned, w64}
@@ -65,17 +65,21 @@ samples_of σ values = map (λ (value : NumberValue). sample_of σ (amount_of va
 abbrev pub any_after_commit : NumberValue → AggregateContents → AggregateContents
 any_after_commit value a = cond (beq (is_signed_value value) a.is_signed) (stream_after_commit (amount_of value) a) a
 
--- after records of these values for what is prepared, which stays prepared
+-- after records of these values for the set that is prepared next, with all that is prepared
+abbrev pub any_with_commits : List NumberValue → AggregateContents → AggregateContents
+any_with_commits values a = fold (λ (b : AggregateContents) (value : NumberValue). record (any_after_commit value b) { pending = b.pending }) a values
+
+-- after the same records; what is prepared after that set stays prepared
 abbrev pub any_after_commits : List NumberValue → AggregateContents → AggregateContents
-any_after_commits values a = fold (λ (b : AggregateContents) (value : NumberValue). record (any_after_commit value b) { pending = b.pending }) a values
+any_after_commits values a = record (any_with_commits values a) { pending = drop 1 a.pending }
 
 -- after a record of a value without attributes; a stream of the other number type doesn't change
 abbrev pub any_after_none : NumberValue → AggregateContents → AggregateContents
-any_after_none value a = cond (beq (is_signed_value value) a.is_signed) (record a { state = recorded_set none_set (amount_of value) a.state; pending = None }) a
+any_after_none value a = cond (beq (is_signed_value value) a.is_signed) (record a { state = recorded_set none_set (amount_of value) a.state; pending = [] }) a
 
 -- after a record of a value with attributes; a stream of the other number type doesn't change
 abbrev pub any_after_record : NumberValue → List KeyValue → AggregateContents → AggregateContents
-any_after_record value l a = cond (beq (is_signed_value value) a.is_signed) (record a { state = recorded_attributes l (amount_of value) a.state; pending = None }) a
+any_after_record value l a = cond (beq (is_signed_value value) a.is_signed) (record a { state = recorded_attributes l (amount_of value) a.state; pending = [] }) a
 
 -- ======== handles ========
 -- with room made for a handle; in a stream of observed sums there is none
@@ -139,7 +143,7 @@ state_after_collection now a = cond a.drains (with_observed a (drained_at now (o
 
 -- after a collection at a moment; if it empties or resets the stream, what was prepared is given up
 abbrev pub any_after_collection : ℕ → AggregateContents → AggregateContents
-any_after_collection now a = record (state_after_collection now a) { pending = cond (a.drains || a.state.resets) None a.pending }
+any_after_collection now a = record (state_after_collection now a) { pending = cond (a.drains || a.state.resets) [] a.pending }
 
 -- ======== drafts ========
 -- what a stream keeps of a set's records: their sum, the last of them, or how they spread
@@ -172,4 +176,4 @@ pub record IsLike (d : DraftContents) (a : AggregateContents) : Type 0 where
 
 -- with what the draft has in place of its own; what was prepared is given up
 abbrev pub with_draft : DraftContents → AggregateContents → AggregateContents
-with_draft d a = record a { state = record a.state { map_state = record a.state.map_state { table = d.table }; recorded = d.recorded }; pending = None }
+with_draft d a = record a { state = record a.state { map_state = record a.state.map_state { table = d.table }; recorded = d.recorded }; pending = [] }

@@ -8,7 +8,7 @@ use Rattle.otel_model_stream.specs.Entries.{Point, points}
 use Rattle.otel_model_stream.specs.Events.{Handles, held_by, without}
 use Rattle.otel_model_stream.specs.Maps.{MapState, new_map, measured_map, bound_map, bound_to, updated_bound, unbound_map, evicted_map}
 use Rattle.otel_model_stream.specs.Totals.{size, points_total}
-use Rattle.otel_aggregate.specs.value_map.Contents.{is_there_in}
+use Rattle.otel_aggregate.specs.value_map.Contents.{is_there_in, next_of}
 
 -- what a stream makes of its records, and, modulo 2^64, the totals of its records and of the points that collections
 -- gave before they reset it
@@ -42,7 +42,7 @@ pub record AggregateContents : Type 0 where
   pub is_signed : Bool
   pub state : AggregateState
   pub live : Handles
-  pub pending : Option AttributeSet
+  pub pending : List AttributeSet
   pub room : Bool
   pub drains : Bool
   pub reported : List Point
@@ -75,21 +75,21 @@ stream_after_collection now a = cond a.resets (record a { map_state = evicted_ma
 -- after a prepared record of this set, if there is one
 abbrev pub taken_from : Option AttributeSet → Amount → AggregateContents → AggregateContents
 taken_from None v s = s
-taken_from (Some set) v s = record s { state = recorded_set set v s.state; pending = None }
+taken_from (Some set) v s = record s { state = recorded_set set v s.state; pending = [] }
 
 -- after the prepared record, if there is one
 abbrev pub stream_after_commit : Amount → AggregateContents → AggregateContents
-stream_after_commit v s = taken_from s.pending v s
+stream_after_commit v s = taken_from (next_of s.pending) v s
 
 -- ======== handles ========
 -- after a bind of this set, if there is one, as this handle; it uses the room
 abbrev pub bind_of : Option AttributeSet → ℕ → AggregateContents → AggregateContents
 bind_of None h s = s
-bind_of (Some set) h s = record s { state = record s.state { map_state = bound_map set s.state.map_state }; live = s.live ++ (h, bound_to set s.state.map_state) ∷ []; pending = None; room = false }
+bind_of (Some set) h s = record s { state = record s.state { map_state = bound_map set s.state.map_state }; live = s.live ++ (h, bound_to set s.state.map_state) ∷ []; pending = []; room = false }
 
 -- after the prepared bind as the handle with this number, if room is made and no such handle is live
 abbrev pub stream_after_bind : ℕ → AggregateContents → AggregateContents
-stream_after_bind h s = cond (s.room && is_none (held_by h s.live)) (bind_of s.pending h s) s
+stream_after_bind h s = cond (s.room && is_none (held_by h s.live)) (bind_of (next_of s.pending) h s) s
 
 -- after a record through a handle of this set's entry, if there is a set
 abbrev pub update_at : Option AttributeSet → Amount → AggregateState → AggregateState
@@ -98,7 +98,7 @@ update_at (Some g) v a = recorded_in (updated_bound g (sample_of a.aggregate v) 
 
 -- after a record through the handle with this number, if it is live; what was prepared is given up
 abbrev pub stream_after_update : ℕ → Amount → AggregateContents → AggregateContents
-stream_after_update h v s = record s { state = update_at (held_by h s.live) v s.state; pending = None }
+stream_after_update h v s = record s { state = update_at (held_by h s.live) v s.state; pending = [] }
 
 -- after the end of a handle of this set's entry, if there is a set
 abbrev pub unbind_at : Option AttributeSet → AggregateState → AggregateState
@@ -107,8 +107,8 @@ unbind_at (Some g) a = record a { map_state = unbound_map g a.map_state }
 
 -- after the end of the handle with this number, if it is live; what was prepared is given up
 abbrev pub stream_after_unbind : ℕ → AggregateContents → AggregateContents
-stream_after_unbind h s = record s { state = unbind_at (held_by h s.live) s.state; live = without h s.live; pending = None }
+stream_after_unbind h s = record s { state = unbind_at (held_by h s.live) s.state; live = without h s.live; pending = [] }
 
 -- with a record or a bind of these attributes prepared, and room for a handle
 abbrev pub ready_to_bind : List KeyValue → AggregateContents → AggregateContents
-ready_to_bind l s = record s { pending = Some (bound_to (set_of s.state.allow l) s.state.map_state); room = true }
+ready_to_bind l s = record s { pending = bound_to (set_of s.state.allow l) s.state.map_state ∷ []; room = true }

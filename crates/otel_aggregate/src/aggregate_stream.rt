@@ -2,7 +2,7 @@
 
 ghost use Rattle.std.specs.Bool.{beq};
 ghost use Rattle.std.specs.List.{AllByRecursion, list_all};
-ghost use Rattle.std.specs.Prelude.{◌≡◌, [], true, false, cond, None, Some, IsTrue, OnOk, OnErr, IfOk, IsOk, IsOkUnless};
+ghost use Rattle.std.specs.Prelude.{◌≡◌, ◌∷◌, [], true, false, cond, None, Some, IsTrue, OnOk, OnErr, IfOk, IsOk, IsOkUnless};
 ghost use Rattle.otel_common.specs.Temporalities.{resets};
 ghost use Rattle.otel_model_stream.specs.Sets.{AttributeSet, set_of};
 ghost use Rattle.otel_model_stream.specs.Folds.{Last};
@@ -11,7 +11,7 @@ ghost use Rattle.otel_model_stream.specs.Maps.{new_map, bound_to};
 ghost use Rattle.otel_aggregate.specs.Any.{aggregate_of, is_monotonic_of, drains_of, amount_of, any_after_commit, any_after_commits, HaveOneType, any_after_none, any_after_record, is_signed_value, any_with_room, any_after_bind, any_after_update, is_updated, any_after_unbind, metrics_now, any_after_collection, draft_of, IsLike, with_draft};
 ghost use Rattle.otel_aggregate.specs.Kept.{IsWithin, state_of};
 ghost use Rattle.otel_aggregate.specs.Streams.{new_aggregate, is_known};
-ghost use Rattle.otel_aggregate.specs.value_map.Numbers.{is_placed};
+ghost use Rattle.otel_aggregate.specs.value_map.Contents.{is_next_placed};
 
 use crate::any_aggregator::{AnyAggregator, AnyConfig};
 use crate::draft::AggregateDraft;
@@ -150,7 +150,7 @@ impl AggregateStream {
         ensures made { IfOk result (λ made. made.state ≡ new_aggregate (aggregate_of settings) (is_monotonic_of settings) allow (resets temporality) limit start) }
         ensures number { IfOk result (λ made. made.is_signed ≡ is_signed) }
         ensures handles { IfOk result (λ made. made.live ≡ []) }
-        ensures unprepared { IfOk result (λ made. made.pending ≡ None) }
+        ensures unprepared { IfOk result (λ made. made.pending ≡ []) }
         ensures room { IfOk result (λ made. made.room ≡ false) }
         ensures drains { IfOk result (λ made. made.drains ≡ drains_of settings) }
         ensures reported { IfOk result (λ made. made.reported ≡ []) }
@@ -192,8 +192,8 @@ impl AggregateStream {
         ensures number { self.new.is_signed ≡ self.old.is_signed }
         ensures drains { self.new.drains ≡ self.old.drains }
         ensures reported { self.new.reported ≡ self.old.reported }
-        ensures ready { OnOk result (self.new.pending ≡ Some (bound_to (set_of self.old.state.allow given.now) self.old.state.map_state)) }
-        ensures refused { OnErr result (self.new.pending ≡ None) }
+        ensures ready { OnOk result (self.new.pending ≡ bound_to (set_of self.old.state.allow given.now) self.old.state.map_state ∷ []) }
+        ensures refused { OnErr result (self.new.pending ≡ []) }
         ensures known { IsTrue (is_known self.old.state.allow given.now self.old.state.map_state) → IsOk result }
     {
         match &self.allow {
@@ -245,26 +245,32 @@ impl AggregateStream {
         self.recorded = self.settings.counted(value, self.recorded);
     }
 
-    /// Whether the entry that the prepared record uses is there already, so that the record makes none.
+    /// Prepares a record with these attributes beside those that are prepared, to be taken in before them, if its entry is
+    /// there already, so that the record makes none, and answers whether it did. Otherwise it gives up what is prepared. What
+    /// the stream shows stays unchanged. Takes memory for a number.
     #[inline(always)]
-    pub fn has_entry(&self) -> bool
-        ensures { (s : AttributeSet) → self.now.pending ≡ Some s → result ≡ is_placed s self.now.state.map_state.table.entries }
+    pub fn prepare_known(&mut self, given: &GivenAttributes) -> bool
+        ensures ready { result ≡ true → self.new ≡ record self.old { pending = bound_to (set_of self.old.state.allow given.now) self.old.state.map_state ∷ self.old.pending } }
+        ensures there { result ≡ true → is_next_placed self.new.pending self.new.state.map_state.table.entries ≡ true }
+        ensures refused { result ≡ false → self.new ≡ record self.old { pending = [] } }
     {
-        self.map.has_entry()
+        self.map.prepare_known(self.allow.as_ref(), given)
     }
 
-    /// Takes in the records of these values, which have one number type, for what is prepared, whose entry is there
-    /// already, if that is the stream's number type, and keeps it prepared. Takes no memory, and looks nothing up.
+    /// Takes in the records of these values, which have one number type, for the set that is prepared next, if its entry is
+    /// there already and that is the stream's number type, and keeps the others prepared. Takes no memory, and looks nothing
+    /// up.
     pub fn commit_each(&mut self, values: &[NumberValue])
-        requires there { (s : AttributeSet) × (self.old.pending ≡ Some s) × (is_placed s self.old.state.map_state.table.entries ≡ true) }
         requires alike { HaveOneType values.now }
-        ensures taken { self.new ≡ any_after_commits values.now self.old }
+        ensures taken { is_next_placed self.old.pending self.old.state.map_state.table.entries ≡ true → self.new ≡ any_after_commits values.now self.old }
+        ensures idle { is_next_placed self.old.pending self.old.state.map_state.table.entries ≡ false → self.new ≡ self.old }
     {
-        if !self.takes_each(values) {
+        if !self.map.has_entry() {
             return;
         }
-        self.map.commit_each(&self.settings, values);
-        self.recorded = self.settings.counted_each(values, self.recorded);
+        let taken = if self.takes_each(values) { values } else { &[] };
+        self.map.commit_each(&self.settings, taken);
+        self.recorded = self.settings.counted_each(taken, self.recorded);
     }
 
     /// Takes in a record with these attributes, in place of one that was prepared, if the value has the stream's number
@@ -276,7 +282,7 @@ impl AggregateStream {
         attributes: &GivenAttributes,
     ) -> Result<(), AllocError>
         ensures taken { OnOk result (self.new ≡ any_after_record value attributes.now self.old) }
-        ensures refused { OnErr result (self.new ≡ record self.old { pending = None }) }
+        ensures refused { OnErr result (self.new ≡ record self.old { pending = [] }) }
         ensures known { IsTrue (is_known self.old.state.allow attributes.now self.old.state.map_state) → IsOk result }
     {
         if !self.takes(value) {

@@ -88,7 +88,7 @@ impl<T: Number + Drop, A: TypedAggregate<T>> TypedStream<T, A> {
     ) -> Result<Self, Fault>
         ensures made { IfOk result (λ made. made.state ≡ new_aggregate (A.aggregate settings) (A.is_monotonic settings) allow (resets temporality) limit start) }
         ensures handles { IfOk result (λ made. made.live ≡ []) }
-        ensures unprepared { IfOk result (λ made. made.pending ≡ None) }
+        ensures unprepared { IfOk result (λ made. made.pending ≡ []) }
         ensures room { IfOk result (λ made. made.room ≡ false) }
         ensures only_memory { IsOkUnless result Fault.OutOfMemory }
     {
@@ -117,7 +117,7 @@ impl<T: Number + Drop, A: TypedAggregate<T>> TypedStream<T, A> {
         ensures err { OnErr result (self.new.state ≡ self.old.state) }
         ensures live { self.new.live ≡ self.old.live }
         ensures room { self.new.room ≡ self.old.room }
-        ensures spent { self.new.pending ≡ None }
+        ensures spent { self.new.pending ≡ [] }
         ensures known { IsTrue (is_known self.old.state.allow attributes.now self.old.state.map_state) → IsOk result }
         ensures only_memory { IsOkUnless result Fault.OutOfMemory }
     {
@@ -170,7 +170,7 @@ impl<T: Number + Drop, A: TypedAggregate<T>> TypedStream<T, A> {
         ensures err { OnErr result (self.new.state ≡ self.old.state) }
         ensures live { self.new.live ≡ self.old.live }
         ensures room { self.new.room ≡ self.old.room }
-        ensures pending { OnOk result (self.new.pending ≡ cond self.old.state.resets None self.old.pending) }
+        ensures pending { OnOk result (self.new.pending ≡ cond self.old.state.resets [] self.old.pending) }
         ensures refused { OnErr result (self.new.pending ≡ self.old.pending) }
         ensures only_memory { IsOkUnless result Fault.OutOfMemory }
     {

@@ -1,6 +1,6 @@
 //! A bounded map from sets of attributes to aggregators.
 
-ghost use Rattle.std.specs.Prelude.{◌≡◌, ◌<◌, ◌-◌, ◌+◌, ◌*◌, ◌≤◌, ◌^◌, ◌++◌, [], true, false, is_some, length, map, fold, None, Some, IsSome, IfSome, OnOk, OnErr, IfOk, IsOk, IfErr, IsOkUnless, IsTrue};
+ghost use Rattle.std.specs.Prelude.{◌≡◌, ◌<◌, ◌-◌, ◌+◌, ◌*◌, ◌≤◌, ◌^◌, ◌++◌, ◌∷◌, [], true, false, drop, is_some, length, map, fold, None, Some, IsSome, IfSome, OnOk, OnErr, IfOk, IsOk, IfErr, IsOkUnless, IsTrue};
 ghost use Rattle.std.specs.List.{AllByRecursion};
 ghost use Rattle.std.specs.Option.{option_copied, option_map};
 ghost use Rattle.otel_common.specs.Canonical.{canon};
@@ -12,7 +12,7 @@ ghost use Rattle.otel_model_stream.specs.Folds.{wrap};
 ghost use Rattle.otel_model_stream.specs.Sets.{AttributeSet, allowed_part, none_set, set_of};
 ghost use Rattle.otel_model_stream.specs.Totals.{points_total};
 ghost use Rattle.otel_aggregate.specs.Any.{aggregate_of, samples_of};
-ghost use Rattle.otel_aggregate.specs.value_map.Contents.{known_of, is_there_in};
+ghost use Rattle.otel_aggregate.specs.value_map.Contents.{known_of, is_next_placed, is_there_in, next_of};
 ghost use Rattle.otel_aggregate.specs.value_map.Faults.{IsBindFault};
 ghost use Rattle.otel_aggregate.specs.value_map.Numbers.{number_of, is_number, is_placed, handles_at, AreNamed, AreNumbered, spelling_of, KeepNumbers, KeepLeft};
 ghost use Rattle.otel_aggregate.specs.value_map.Slots.{HasForm, copies};
@@ -119,7 +119,7 @@ impl<A: Aggregator> ValueMap<A> {
     ) -> Result<Self, Fault>
         ensures made { IfOk result (λ made. made.state ≡ new_map limit (A.empty config)) }
         ensures given { IfOk result (λ made. made.given ≡ []) }
-        ensures unprepared { IfOk result (λ made. made.pending ≡ None) }
+        ensures unprepared { IfOk result (λ made. made.pending ≡ []) }
         ensures only_memory { IsOkUnless result Fault.OutOfMemory }
     {
         let none = A::create(alloc, &config)?;
@@ -148,9 +148,9 @@ impl<A: Aggregator> ValueMap<A> {
         ensures same { self.new.state ≡ self.old.state }
         ensures numbers { self.new.numbers ≡ self.old.numbers }
         ensures given { self.new.given ≡ self.old.given }
-        ensures ready { OnOk result (self.new.pending ≡ Some (bound_to (canon list.now.key) self.old.state)) }
+        ensures ready { OnOk result (self.new.pending ≡ bound_to (canon list.now.key) self.old.state ∷ []) }
         ensures spelling { OnOk result (self.new.spelling ≡ spelling_of list.now.key self.old.state) }
-        ensures refused { OnErr result (self.new.pending ≡ None) }
+        ensures refused { OnErr result (self.new.pending ≡ []) }
         ensures known { SucceedsIfKnown list.now.key (known_of self.old) result }
         ensures there { IsTrue (is_there_in (canon list.now.key) self.old.state) → IsOk result }
     {
@@ -176,9 +176,9 @@ impl<A: Aggregator> ValueMap<A> {
         ensures same { self.new.state ≡ self.old.state }
         ensures numbers { self.new.numbers ≡ self.old.numbers }
         ensures given { self.new.given ≡ self.old.given }
-        ensures ready { OnOk result (self.new.pending ≡ Some (bound_to (canon list.now.key) self.old.state)) }
+        ensures ready { OnOk result (self.new.pending ≡ bound_to (canon list.now.key) self.old.state ∷ []) }
         ensures spelling { OnOk result (self.new.spelling ≡ spelling_of list.now.key self.old.state) }
-        ensures refused { OnErr result (self.new.pending ≡ None) }
+        ensures refused { OnErr result (self.new.pending ≡ []) }
         ensures there { IsTrue (is_there_in (canon list.now.key) self.old.state) → IsOk result }
         ensures only_memory { IsOkUnless result Fault.OutOfMemory }
     {
@@ -197,12 +197,12 @@ impl<A: Aggregator> ValueMap<A> {
     /// Finds or makes the entry for what is prepared, and returns its number.
     #[inline(always)]
     fn place(&mut self) -> usize
-        requires { IsSome self.old.pending }
-        ensures state { (s : AttributeSet) → self.old.pending ≡ Some s → self.new.state ≡ with_place s self.old.state }
-        ensures number { (s : AttributeSet) → self.old.pending ≡ Some s → number_of (entry_for s self.new.state.table.entries) self.new.numbers ≡ Some result }
+        requires { IsSome (next_of self.old.pending) }
+        ensures state { (s : AttributeSet) → next_of self.old.pending ≡ Some s → self.new.state ≡ with_place s self.old.state }
+        ensures number { (s : AttributeSet) → next_of self.old.pending ≡ Some s → number_of (entry_for s self.new.state.table.entries) self.new.numbers ≡ Some result }
         ensures numbers { KeepNumbers self.old.numbers self.new.numbers }
         ensures given { self.new.given ≡ self.old.given ++ self.old.spelling }
-        ensures spent { self.new.pending ≡ None }
+        ensures spent { self.new.pending ≡ [] }
     {
         let Pending::At(number) = self.pending else {
             return self.place_new();
@@ -214,17 +214,21 @@ impl<A: Aggregator> ValueMap<A> {
     /// Does what `place` does, out of line, as few records are for a set that has no entry.
     #[inline(never)]
     fn place_new(&mut self) -> usize
-        requires { IsSome self.old.pending }
-        ensures state { (s : AttributeSet) → self.old.pending ≡ Some s → self.new.state ≡ with_place s self.old.state }
-        ensures number { (s : AttributeSet) → self.old.pending ≡ Some s → number_of (entry_for s self.new.state.table.entries) self.new.numbers ≡ Some result }
+        requires { IsSome (next_of self.old.pending) }
+        ensures state { (s : AttributeSet) → next_of self.old.pending ≡ Some s → self.new.state ≡ with_place s self.old.state }
+        ensures number { (s : AttributeSet) → next_of self.old.pending ≡ Some s → number_of (entry_for s self.new.state.table.entries) self.new.numbers ≡ Some result }
         ensures numbers { KeepNumbers self.old.numbers self.new.numbers }
         ensures given { self.new.given ≡ self.old.given ++ self.old.spelling }
-        ensures spent { self.new.pending ≡ None }
+        ensures spent { self.new.pending ≡ [] }
     {
         let (set, list) = match replace(&mut self.pending, Pending::Nothing) {
             Pending::Nothing => return self.table.none(),
             Pending::At(number) => return number,
             Pending::New(set, list) => (set, list),
+            Pending::Several(numbers) => match numbers.last() {
+                Some(number) => return *number,
+                None => return self.table.none(),
+            },
         };
         let lasting = is_overflow(set.as_slice());
         if self.count < self.limit {
@@ -251,9 +255,9 @@ impl<A: Aggregator> ValueMap<A> {
         ensures same { self.new.state ≡ self.old.state }
         ensures numbers { self.new.numbers ≡ self.old.numbers }
         ensures given { self.new.given ≡ self.old.given }
-        ensures ready { OnOk result (self.new.pending ≡ Some (bound_to (canon given.now) self.old.state)) }
+        ensures ready { OnOk result (self.new.pending ≡ bound_to (canon given.now) self.old.state ∷ []) }
         ensures spelling { OnOk result (self.new.spelling ≡ spelling_of given.now self.old.state) }
-        ensures refused { OnErr result (self.new.pending ≡ None) }
+        ensures refused { OnErr result (self.new.pending ≡ []) }
         ensures known { SucceedsIfKnown given.now (known_of self.old) result }
         ensures there { IsTrue (is_there_in (canon given.now) self.old.state) → IsOk result }
     {
@@ -276,9 +280,9 @@ impl<A: Aggregator> ValueMap<A> {
         ensures same { self.new.state ≡ self.old.state }
         ensures numbers { self.new.numbers ≡ self.old.numbers }
         ensures given { self.new.given ≡ self.old.given }
-        ensures ready { OnOk result (self.new.pending ≡ Some (bound_to (set_of (Some allow.now) attributes.now) self.old.state)) }
+        ensures ready { OnOk result (self.new.pending ≡ bound_to (set_of (Some allow.now) attributes.now) self.old.state ∷ []) }
         ensures spelling { OnOk result (self.new.spelling ≡ spelling_of (allowed_part (Some allow.now) attributes.now) self.old.state) }
-        ensures refused { OnErr result (self.new.pending ≡ None) }
+        ensures refused { OnErr result (self.new.pending ≡ []) }
         ensures known { SucceedsIfKnown (allowed_part (Some allow.now) attributes.now) (known_of self.old) result }
         ensures there { IsTrue (is_there_in (set_of (Some allow.now) attributes.now) self.old.state) → IsOk result }
         ensures only_memory { IsOkUnless result Fault.OutOfMemory }
@@ -307,35 +311,78 @@ impl<A: Aggregator> ValueMap<A> {
         ensures same { self.new.state ≡ self.old.state }
         ensures numbers { self.new.numbers ≡ self.old.numbers }
         ensures given { self.new.given ≡ self.old.given }
-        ensures spent { self.new.pending ≡ None }
+        ensures spent { self.new.pending ≡ [] }
     {
         self.pending.give_up();
     }
 
     /// Whether a record or a bind is prepared.
     pub(crate) fn is_prepared(&self) -> bool
-        ensures { result ≡ is_some self.now.pending }
+        ensures { result ≡ is_some (next_of self.now.pending) }
     {
-        !matches!(self.pending, Pending::Nothing)
+        match &self.pending {
+            Pending::Nothing => false,
+            Pending::At(_) | Pending::New(_, _) => true,
+            Pending::Several(numbers) => !numbers.is_empty(),
+        }
     }
 
-    /// Whether the entry that the prepared record or bind uses is there already.
+    /// Whether a record or a bind is prepared, and the entry that the next one uses is there already.
     #[inline(always)]
     pub(crate) fn has_entry(&self) -> bool
-        ensures { (s : AttributeSet) → self.now.pending ≡ Some s → result ≡ is_placed s self.now.state.table.entries }
+        ensures { result ≡ is_next_placed self.now.pending self.now.state.table.entries }
     {
-        matches!(self.pending, Pending::At(_))
+        match &self.pending {
+            Pending::Nothing | Pending::New(_, _) => false,
+            Pending::At(_) => true,
+            Pending::Several(numbers) => !numbers.is_empty(),
+        }
+    }
+
+    /// Prepares a record beside those that are prepared, to be taken in before them, if its entry is there already, and
+    /// answers whether it did. Otherwise it gives up what is prepared. The contents of the map stay unchanged. Takes memory
+    /// for a number.
+    #[inline(always)]
+    pub(crate) fn prepare_known(
+        &mut self,
+        allow: Option<&AllowedKeys>,
+        given: &GivenAttributes,
+    ) -> bool
+        ensures same { self.new.state ≡ self.old.state }
+        ensures numbers { self.new.numbers ≡ self.old.numbers }
+        ensures given { self.new.given ≡ self.old.given }
+        ensures ready { result ≡ true → self.new.pending ≡ bound_to (set_of (option_copied allow.entry) given.now) self.old.state ∷ self.old.pending }
+        ensures there { result ≡ true → is_next_placed self.new.pending self.new.state.table.entries ≡ true }
+        ensures refused { result ≡ false → self.new.pending ≡ [] }
+    {
+        let Some(mut numbers) = self.pending.take_numbers(self.alloc) else {
+            return false;
+        };
+        let prepared = match allow {
+            None => self.prepare(given).is_ok(),
+            Some(allow) => self.prepare_allowed(allow, given.as_slice()).is_ok(),
+        };
+        match self.pending {
+            Pending::At(number) if prepared && numbers.push(number).is_ok() => {
+                self.pending = Pending::Several(numbers);
+                true
+            }
+            _ => {
+                self.give_up();
+                false
+            }
+        }
     }
 
     /// Takes in the prepared record; `is_prepared` tells whether there is one. This is the second phase; it looks nothing
     /// up for a set that has an entry.
     #[inline(always)]
     pub(crate) fn commit(&mut self, value: A::PreComputedValue)
-        requires { IsSome self.old.pending }
-        ensures measured { (s : AttributeSet) → self.old.pending ≡ Some s → self.new.state ≡ measured_map s (A.sample value) self.old.state }
+        requires { IsSome (next_of self.old.pending) }
+        ensures measured { (s : AttributeSet) → next_of self.old.pending ≡ Some s → self.new.state ≡ measured_map s (A.sample value) self.old.state }
         ensures numbers { KeepNumbers self.old.numbers self.new.numbers }
         ensures given { self.new.given ≡ self.old.given ++ self.old.spelling }
-        ensures spent { self.new.pending ≡ None }
+        ensures spent { self.new.pending ≡ [] }
     {
         let entry = self.place();
         self.table.touch(entry, value);
@@ -348,7 +395,7 @@ impl<A: Aggregator> ValueMap<A> {
         ensures measured { self.new.state ≡ measured_map none_set (A.sample value) self.old.state }
         ensures numbers { self.new.numbers ≡ self.old.numbers }
         ensures given { self.new.given ≡ self.old.given }
-        ensures spent { self.new.pending ≡ None }
+        ensures spent { self.new.pending ≡ [] }
     {
         self.pending.give_up();
         let none = self.table.none();
@@ -368,7 +415,7 @@ impl<A: Aggregator> ValueMap<A> {
         ensures learned { OnOk result (IsTrue (is_admitted (canon attributes.now) self.old.state) → AreKnown attributes.now (known_of self.new)) }
         ensures numbers { KeepNumbers self.old.numbers self.new.numbers }
         ensures err { OnErr result (known_of self.new ≡ known_of self.old) }
-        ensures spent { self.new.pending ≡ None }
+        ensures spent { self.new.pending ≡ [] }
         ensures known { SucceedsIfKnown attributes.now (known_of self.old) result }
         ensures there { IsTrue (is_there_in (canon attributes.now) self.old.state) → IsOk result }
         ensures only_memory { IsOkUnless result Fault.OutOfMemory }
@@ -387,7 +434,7 @@ impl<A: Aggregator> ValueMap<A> {
         ensures learned { OnOk result (IsTrue (is_admitted (canon attributes.now) self.old.state) → AreKnown attributes.now (known_of self.new)) }
         ensures numbers { KeepNumbers self.old.numbers self.new.numbers }
         ensures err { OnErr result (known_of self.new ≡ known_of self.old) }
-        ensures spent { self.new.pending ≡ None }
+        ensures spent { self.new.pending ≡ [] }
         ensures known { SucceedsIfKnown attributes.now (known_of self.old) result }
         ensures there { IsTrue (is_there_in (canon attributes.now) self.old.state) → IsOk result }
         ensures only_memory { IsOkUnless result Fault.OutOfMemory }
@@ -406,13 +453,13 @@ impl<A: Aggregator> ValueMap<A> {
     /// Carries out the prepared bind, and returns the number of the entry: that of the set, or the overflow entry.
     /// This is the second phase; it can't fail.
     pub(crate) fn commit_bind(&mut self) -> usize
-        requires prepared { IsSome self.old.pending }
-        requires few { (s : AttributeSet) → self.old.pending ≡ Some s → handles_at (bound_to s self.old.state) self.old.state.table < 2 ^ 64 - 1 }
-        ensures bound { (s : AttributeSet) → self.old.pending ≡ Some s → self.new.state ≡ bound_map s self.old.state }
-        ensures number { (s : AttributeSet) → self.old.pending ≡ Some s → number_of (bound_to s self.old.state) self.new.numbers ≡ Some result }
+        requires prepared { IsSome (next_of self.old.pending) }
+        requires few { (s : AttributeSet) → next_of self.old.pending ≡ Some s → handles_at (bound_to s self.old.state) self.old.state.table < 2 ^ 64 - 1 }
+        ensures bound { (s : AttributeSet) → next_of self.old.pending ≡ Some s → self.new.state ≡ bound_map s self.old.state }
+        ensures number { (s : AttributeSet) → next_of self.old.pending ≡ Some s → number_of (bound_to s self.old.state) self.new.numbers ≡ Some result }
         ensures numbers { KeepNumbers self.old.numbers self.new.numbers }
         ensures given { self.new.given ≡ self.old.given ++ self.old.spelling }
-        ensures spent { self.new.pending ≡ None }
+        ensures spent { self.new.pending ≡ [] }
     {
         let number = self.place();
         self.table.hold(number);
@@ -421,12 +468,16 @@ impl<A: Aggregator> ValueMap<A> {
 
     /// How many live handles the entry has that the prepared bind uses; none if the entry is still to be made.
     fn handles_there(&self) -> u64
-        ensures { (s : AttributeSet) → self.now.pending ≡ Some s → result ≡ handles_at s self.now.state.table }
+        ensures { (s : AttributeSet) → next_of self.now.pending ≡ Some s → result ≡ handles_at s self.now.state.table }
     {
         // Tells the prover that the first entry is the empty set's.
         self.table.law_of_empty_set();
-        match self.pending {
-            Pending::At(number) => self.table.handles(number),
+        match &self.pending {
+            Pending::At(number) => self.table.handles(*number),
+            Pending::Several(numbers) => match numbers.last() {
+                Some(number) => self.table.handles(*number),
+                None => 0,
+            },
             _ => 0,
         }
     }
@@ -442,7 +493,7 @@ impl<A: Aggregator> ValueMap<A> {
         ensures number { IfOk result (λ n. number_of (bound_to (canon attributes.now) self.old.state) self.new.numbers ≡ Some n) }
         ensures numbers { KeepNumbers self.old.numbers self.new.numbers }
         ensures err { OnErr result (known_of self.new ≡ known_of self.old) }
-        ensures spent { self.new.pending ≡ None }
+        ensures spent { self.new.pending ≡ [] }
         ensures known { handles_at (bound_to (canon attributes.now) self.old.state) self.old.state.table < 2 ^ 64 - 1 → SucceedsIfKnown attributes.now (known_of self.old) result }
         ensures there { handles_at (bound_to (canon attributes.now) self.old.state) self.old.state.table < 2 ^ 64 - 1 → IsTrue (is_there_in (canon attributes.now) self.old.state) → IsOk result }
         ensures refused { IfErr result (IsBindFault (handles_at (bound_to (canon attributes.now) self.old.state) self.old.state.table)) }
@@ -463,7 +514,7 @@ impl<A: Aggregator> ValueMap<A> {
         ensures unknown { is_number number self.old.numbers ≡ false → self.new.state ≡ self.old.state }
         ensures numbers { self.new.numbers ≡ self.old.numbers }
         ensures given { self.new.given ≡ self.old.given }
-        ensures spent { self.new.pending ≡ None }
+        ensures spent { self.new.pending ≡ [] }
     {
         self.pending.give_up();
         self.table.touch(number, value);
@@ -476,7 +527,7 @@ impl<A: Aggregator> ValueMap<A> {
         ensures unknown { is_number number self.old.numbers ≡ false → self.new.state ≡ self.old.state }
         ensures numbers { self.new.numbers ≡ self.old.numbers }
         ensures given { self.new.given ≡ self.old.given }
-        ensures spent { self.new.pending ≡ None }
+        ensures spent { self.new.pending ≡ [] }
     {
         self.pending.give_up();
         self.table.release(number);
@@ -546,7 +597,7 @@ impl<A: Aggregator> ValueMap<A> {
         ensures state { self.new.state ≡ evicted_map self.old.state }
         ensures numbers { KeepLeft (evicted_map self.old.state).table.entries self.old.numbers self.new.numbers }
         ensures given { self.new.given ≡ given_left (evicted_map self.old.state) self.old.given }
-        ensures unprepared { self.new.pending ≡ None }
+        ensures unprepared { self.new.pending ≡ [] }
     {
         self.pending.give_up();
         self.table.evict();
@@ -561,7 +612,7 @@ impl<A: Aggregator> ValueMap<A> {
         ensures state { self.new.state ≡ drained_map self.old.state }
         ensures none { self.new.numbers.none ≡ self.old.numbers.none }
         ensures given { self.new.given ≡ [] }
-        ensures unprepared { self.new.pending ≡ None }
+        ensures unprepared { self.new.pending ≡ [] }
     {
         self.pending.give_up();
         self.table.drain();
@@ -584,7 +635,7 @@ impl<A: Aggregator> ValueMap<A> {
     pub(crate) fn exchange(&mut self, draft: &mut Draft<A>)
         ensures state { self.new.state ≡ record self.old.state { table = draft.old } }
         ensures draft { draft.new ≡ self.old.state.table }
-        ensures unprepared { self.new.pending ≡ None }
+        ensures unprepared { self.new.pending ≡ [] }
         ensures was { HasForm A.meaning self.old.state.table }
         ensures is { HasForm A.meaning draft.old }
     {
@@ -625,7 +676,7 @@ impl<A: Aggregator> ValueMap<A> {
         ensures ok { OnOk result (known_of self.new ≡ evicted_known (known_of self.old)) }
         ensures numbers { KeepLeft self.new.state.table.entries self.old.numbers self.new.numbers }
         ensures err { OnErr result (self.new ≡ self.old) }
-        ensures spent { OnOk result (self.new.pending ≡ None) }
+        ensures spent { OnOk result (self.new.pending ≡ []) }
         ensures only_memory { IsOkUnless result Fault.OutOfMemory }
     {
         let points = self.table.shown(alloc, &Copies {}, false)?;
@@ -646,7 +697,7 @@ impl<A: Aggregator> ValueMap<A> {
         ensures ok { OnOk result (self.new.state ≡ drained_map self.old.state) }
         ensures given { OnOk result (self.new.given ≡ []) }
         ensures err { OnErr result (self.new ≡ self.old) }
-        ensures spent { OnOk result (self.new.pending ≡ None) }
+        ensures spent { OnOk result (self.new.pending ≡ []) }
         ensures only_memory { IsOkUnless result Fault.OutOfMemory }
     {
         let points = self.table.shown(alloc, &Copies {}, true)?;
@@ -656,16 +707,17 @@ impl<A: Aggregator> ValueMap<A> {
 }
 
 impl ValueMap<AnyAggregator> {
-    /// Takes in the records of these values, one after another, for what is prepared, whose entry is there already, and
-    /// keeps it prepared; `has_entry` tells whether the entry is there. Takes no memory, and looks nothing up.
+    /// Takes in the records of these values, one after another, for the set that is prepared next, whose entry is there
+    /// already, and keeps the others prepared; `has_entry` tells whether the entry is there. Takes no memory, and looks
+    /// nothing up.
     pub(crate) fn commit_each(&mut self, settings: &AnySettings, values: &[NumberValue])
-        requires { (s : AttributeSet) × (self.old.pending ≡ Some s) × (is_placed s self.old.state.table.entries ≡ true) }
-        ensures measured { (s : AttributeSet) → self.old.pending ≡ Some s → self.new.state ≡ fold (λ m v. measured_map s v m) self.old.state (samples_of (aggregate_of settings.now) values.now) }
+        requires { is_next_placed self.old.pending self.old.state.table.entries ≡ true }
+        ensures measured { (s : AttributeSet) → next_of self.old.pending ≡ Some s → self.new.state ≡ fold (λ m v. measured_map s v m) self.old.state (samples_of (aggregate_of settings.now) values.now) }
         ensures numbers { self.new.numbers ≡ self.old.numbers }
         ensures given { self.new.given ≡ self.old.given }
-        ensures kept { self.new.pending ≡ self.old.pending }
+        ensures rest { self.new.pending ≡ drop 1 self.old.pending }
     {
-        if let Pending::At(number) = self.pending {
+        if let Some(number) = self.pending.take_next() {
             self.table.touch_each(number, settings, values);
         }
     }

@@ -1,5 +1,5 @@
 -- Whether a stream resets, and by which demand it was made, whatever is done to it.
-use Rattle.std.proofs.Common.{◌≡◌, ℕ, Bool, true, false, cond, not, ◌&&◌, List, [], ◌∷◌, map, Option, Some, None, Result, Ok, Err, is_none, refl, sym, ◌∙◌, ap, subst, OnOk, OnErr}
+use Rattle.std.proofs.Common.{◌≡◌, ℕ, Bool, true, false, cond, not, ◌&&◌, List, [], ◌∷◌, drop, map, Option, Some, None, Result, Ok, Err, is_none, refl, sym, ◌∙◌, ap, subst, OnOk, OnErr}
 use Rattle.std.specs.Bool.{beq}
 use Rattle.std.specs.List.{AllByRecursion}
 use Rattle.std.proofs.lemmas.Simd.{map-map}
@@ -9,6 +9,7 @@ use Rattle.otel_stream.specs.declared.observation.Observed.{Observed}
 use Rattle.otel_model_stream.specs.Events.{Event, held_by}
 use Rattle.otel_model_stream.specs.Sets.{AttributeSet, none_set}
 use Rattle.otel_aggregate.specs.Any.{is_signed_value, amount_of}
+use Rattle.otel_aggregate.specs.value_map.Contents.{is_next_placed, next_of}
 use Rattle.otel_model.specs.Calls.{is_observable}
 use Rattle.otel_model.specs.Demands.{Demand}
 use Rattle.otel_model.specs.Sent.{set_for}
@@ -17,7 +18,7 @@ use Rattle.opentelemetry_sdk.specs.pipeline.Observations.{observed_all, observed
 use Rattle.opentelemetry_sdk.specs.pipeline.Pipelines.{all_without_pending}
 use Rattle.opentelemetry_sdk.specs.declared.pipeline.change.Change.{Change}
 use Rattle.opentelemetry_sdk.specs.declared.pipeline.change.Change.TheVariants as change
-use Rattle.opentelemetry_sdk.specs.pipeline.Streams.{StreamContents, bound_by, committed_by, contents_after, contents_after_record, takes, with_event, with_record, without_pending}
+use Rattle.opentelemetry_sdk.specs.pipeline.Streams.{StreamContents, bound_by, committed_by, contents_after, contents_after_commit, contents_after_record, contents_with_next, takes, with_event, with_record, without_pending}
 use Rattle.opentelemetry_sdk.proofs.pipeline.Writes.{unseen-each}
 
 abbrev pub answer_of : StreamContents → Bool × Demand
@@ -32,15 +33,23 @@ kept-if : (b : Bool) (m n k : StreamContents) → answer_of m ≡ answer_of k �
 kept-if true m n k p q = p
 kept-if false m n k p q = q
 
-pub changes : (c : Change) → KeepsAnswer (contents_after c)
-changes (change.Prepared value) k = kept-if (takes value k) (committed_by k.pending (amount_of value) k) k k (by k.pending) refl
+commits : (value : NumberValue) → KeepsAnswer (contents_after_commit value)
+commits value k = kept-if (takes value k) (committed_by (next_of k.pending) (amount_of value) k) k k (by (next_of k.pending)) refl
   where
     by : (o : Option AttributeSet) → answer_of (committed_by o (amount_of value) k) ≡ answer_of k
     by None = refl
     by (Some s) = refl
+
+nexts : (values : List NumberValue) → KeepsAnswer (contents_with_next values)
+nexts [] k = refl
+nexts (v ∷ vs) k = nexts vs (record (contents_after_commit v k) { pending = k.pending }) ∙ commits v k
+
+pub changes : (c : Change) → KeepsAnswer (contents_after c)
+changes (change.Prepared value) k = commits value k
+changes (change.Each values) k = kept-if (is_next_placed k.pending k.stream.machine.table.entries) (record (contents_with_next values.now k) { pending = drop 1 k.pending }) k k (nexts values.now k) refl
 changes (change.Empty value) k = kept-if (takes value k) (with_record none_set (amount_of value) k) k k refl refl
 changes (change.Held h place value) k = kept-if (not (is_drained k.stream.demand) && takes value k) (with_event (Event.RecordBound h (amount_of value)) k) k k refl refl
-changes (change.Bind h) k = kept-if (not (is_observable k.stream.demand.identity.kind) && (k.room && is_none (held_by h k.stream.machine.live))) (bound_by k.pending h k) k k (by k.pending) refl
+changes (change.Bind h) k = kept-if (not (is_observable k.stream.demand.identity.kind) && (k.room && is_none (held_by h k.stream.machine.live))) (bound_by (next_of k.pending) h k) k k (by (next_of k.pending)) refl
   where
     by : (o : Option AttributeSet) → answer_of (bound_by o h k) ≡ answer_of k
     by None = refl

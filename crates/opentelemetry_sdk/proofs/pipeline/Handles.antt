@@ -4,6 +4,7 @@ use Rattle.std.specs.List.{AllByRecursion as EachOf}
 use Rattle.otel_common.specs.declared.attributes.KeyValue.{KeyValue}
 use Rattle.otel_data.specs.declared.numbers.NumberValue.{NumberValue}
 use Rattle.otel_aggregate.specs.Any.{is_signed_value, amount_of}
+use Rattle.otel_aggregate.specs.value_map.Contents.{next_of}
 use Rattle.otel_aggregate.proofs.value_map.PlaceLemmas.{used-own, used-placed}
 use Rattle.otel_stream.specs.declared.observation.Observed.{Observed}
 use Rattle.otel_model_stream.specs.Events.{Event, held_by}
@@ -100,8 +101,8 @@ bound-sent h n l p lawful ready sync new = each-sent p lawful h n (Bind n l) (co
     let can : can_bind h k ≡ true = λ j. not (kind j) && (room j && is_none (away j)) in
     bind-if p.answers h n l (map (named_identities p.streams) p.feeds) k true fed
     ∙ sym (used-bind h (set_for k.stream.demand l) k)
-    ∙ ap (λ o. (bound_by o h k).stream) (sym is.set)
-    ∙ ap (λ b. (cond b (bound_by k.pending h k) k).stream) (sym can))
+    ∙ ap (λ ss. (bound_by (next_of ss) h k).stream) (sym is.set)
+    ∙ ap (λ b. (cond b (bound_by (next_of k.pending) h k) k).stream) (sym can))
     (λ i k at s fed. bind-if p.answers h n l (map (named_identities p.streams) p.feeds) k false fed)
 
 -- ======== all streams that an instrument feeds ========
@@ -132,6 +133,7 @@ module _ (n h : ℕ) (p : Piped) (lawful : IsLawful p) (sync : FeedsSynchronous 
 -- ======== changes ========
 -- a change is the call that it makes
 pub change-sent : (n : ℕ) (c : Change) (next : ℕ) (call : Call) (p : Piped) → IsLawful p → StandsFor n c next call p → part_changed_by (contents_after c) n p ≡ part_after_call next call (part_of p)
+change-sent n (change.Each values) next call p lawful makes = absurd makes
 change-sent n (change.Prepared value) next call p lawful makes = recorded-sent next n value makes.0 p lawful makes.2 makes.3 ∙ ap (λ x. part_after_call next x (part_of p)) (sym makes.1)
 change-sent n (change.Empty value) next call p lawful makes = none-sent next n value p lawful makes.1 ∙ ap (λ x. part_after_call next x (part_of p)) (sym makes.0)
 change-sent n (change.Held h place value) next call p lawful makes = update-sent n h p lawful makes.2 makes.3 next place value makes.1 ∙ ap (λ x. part_after_call next x (part_of p)) (sym makes.0)

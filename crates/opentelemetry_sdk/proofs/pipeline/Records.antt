@@ -11,6 +11,7 @@ use Rattle.std.proofs.lemmas.Bool.{cases_Bool, true≢false}
 use Rattle.otel_common.specs.declared.attributes.KeyValue.{KeyValue}
 use Rattle.otel_data.specs.declared.numbers.NumberValue.{NumberValue}
 use Rattle.otel_aggregate.specs.Any.{is_signed_value, amount_of}
+use Rattle.otel_aggregate.specs.value_map.Contents.{next_of}
 use Rattle.otel_aggregate.proofs.value_map.PlaceLemmas.{used-measured}
 use Rattle.otel_model_stream.specs.Folds.{Amount, empty_of, sample_of, wrap}
 use Rattle.otel_model_stream.specs.Maps.{MapState}
@@ -161,7 +162,7 @@ pub used-recorded : (s : AttributeSet) (v : Amount) (k : StreamContents) → wit
 used-recorded s v k =
     let q : Stream = k.stream in
     let m : MapState = record { limit = q.demand.limit; empty = empty_of (aggregate_of q.demand); table = q.machine.table } in
-    ap (λ (x : MapState). record k { stream = record q { machine = record q.machine { table = x.table }; recorded = wrap (q.recorded + size (aggregate_of q.demand) v) }; pending = None })
+    ap (λ (x : MapState). record k { stream = record q { machine = record q.machine { table = x.table }; recorded = wrap (q.recorded + size (aggregate_of q.demand) v) }; pending = [] })
     (used-measured m s (sample_of (aggregate_of q.demand) v))
 
 pub recorded-sent : (next n : ℕ) (value : NumberValue) (l : List KeyValue) (p : Piped) → IsLawful p → IsReadyFor false n l p → FeedsType n (is_signed_value value) (part_of p)
@@ -169,8 +170,8 @@ pub recorded-sent : (next n : ℕ) (value : NumberValue) (l : List KeyValue) (p 
 recorded-sent next n value l p lawful ready typed = record-sent p lawful next n value l typed (contents_after (change.Prepared value)) (changes (change.Prepared value))
     (λ i k at h fit.
     ap (λ (x : StreamContents). x.stream) (sym (used-recorded (set_for k.stream.demand l) (amount_of value) k))
-    ∙ ap (λ o. (committed_by o (amount_of value) k).stream) (sym (there-at (IsReadyIfThere false l) p.streams (fed_by n p) ready i k at h).set)
-    ∙ ap (λ b. (cond b (committed_by k.pending (amount_of value) k) k).stream) (sym fit))
+    ∙ ap (λ ss. (committed_by (next_of ss) (amount_of value) k).stream) (sym (there-at (IsReadyIfThere false l) p.streams (fed_by n p) ready i k at h).set)
+    ∙ ap (λ b. (cond b (committed_by (next_of k.pending) (amount_of value) k) k).stream) (sym fit))
 
 -- a record in one pass
 pub taken-sent : (n : ℕ) (value : NumberValue) (l : List KeyValue) (p : Piped) → IsLawful p → FeedsType n (is_signed_value value) (part_of p) → part_changed_by (contents_after_record value l) n p ≡ part_after_call 0 (RecordCall n (number_of value) l) (part_of p)

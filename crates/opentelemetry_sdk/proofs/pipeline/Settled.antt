@@ -1,5 +1,5 @@
 -- Streams that know attributes: records of these make no entry there, and leave them known.
-use Rattle.std.proofs.Common.{◌≡◌, ℕ, nat_lt, Bool, true, false, cond, not, ◌||◌, ◌&&◌, List, [], ◌∷◌, ◌++◌, Some, refl, sym, ◌∙◌, ap, subst}
+use Rattle.std.proofs.Common.{◌≡◌, ℕ, nat_lt, Bool, true, false, cond, not, ◌||◌, ◌&&◌, List, [], ◌∷◌, ◌++◌, refl, sym, ◌∙◌, ap}
 use Rattle.std.specs.Bool.{beq}
 use Rattle.std.proofs.lemmas.Bool.{or_left, or_right}
 use Rattle.std.proofs.lemmas.List.Folds.{list_any-append}
@@ -11,21 +11,17 @@ use Rattle.otel_model_stream.specs.Entries.{Entry, new_entry, is_of, has, number
 use Rattle.otel_model_stream.specs.Maps.{bound_to}
 use Rattle.otel_model_stream.specs.Sets.{AttributeSet, none_set, over_set, set_of}
 use Rattle.otel_model_stream.proofs.Sets.{set_eq_true, set_eq_self, over_apart}
-use Rattle.otel_aggregate.specs.Any.{is_signed_value, amount_of, any_after_commit, any_after_commits}
+use Rattle.otel_aggregate.specs.Any.{is_signed_value, amount_of}
 use Rattle.otel_aggregate.specs.Streams.{AggregateContents, AggregateState}
 use Rattle.otel_aggregate.specs.value_map.Numbers.{is_placed}
 use Rattle.otel_model.specs.Demands.{Demand}
 use Rattle.otel_model.specs.Places.{is_settled}
 use Rattle.otel_model.specs.Sent.{set_for}
-use Rattle.otel_model.specs.State.{Stream}
 use Rattle.otel_model.specs.Streams.{aggregate_of}
-use Rattle.otel_model.proofs.batches.Tables.{entry_for-on, settled-on, settled_stays, settled_rests}
+use Rattle.otel_model.proofs.batches.Tables.{entry_for-on, entry_stays, settled-on, settled_stays, settled_rests}
 use Rattle.otel_model.proofs.batches.Writes.{write-keeps}
 use Rattle.opentelemetry_sdk.specs.pipeline.Known.{is_known_to}
-use Rattle.opentelemetry_sdk.specs.pipeline.Streams.{StreamContents, IsAsked, asked_aggregate, contents_of, used_for, with_record, committed_by, contents_after_each, contents_after_record, without_pending}
-use Rattle.opentelemetry_sdk.proofs.pipeline.Asked.{asked-taken, taken}
-use Rattle.opentelemetry_sdk.proofs.pipeline.Drafted.{observed-settled}
-use Rattle.opentelemetry_sdk.proofs.pipeline.Records.{used-recorded}
+use Rattle.opentelemetry_sdk.specs.pipeline.Streams.{StreamContents, IsAsked, contents_of, used_for, with_record, contents_after_record}
 
 -- ======== entries ========
 -- the entry that a set uses is there exactly if a place for the set changes nothing
@@ -61,58 +57,58 @@ module _ (limit : ℕ) (empty : Fold) (s : AttributeSet) (es : List Entry) where
 abbrev entries_in : StreamContents → List Entry
 entries_in k = k.stream.machine.table.entries
 
-module _ (l : List KeyValue) where
-  -- the set that the stream assigns to them
-  abbrev set_in : StreamContents → AttributeSet
-  set_in k = set_for k.stream.demand l
+-- the set that the stream assigns to attributes
+abbrev pub set_in : List KeyValue → StreamContents → AttributeSet
+set_in l k = set_for k.stream.demand l
 
-  module _ (v : NumberValue) (k : StreamContents) (known : is_known_to l k.stream ≡ true) where
-    abbrev empty_in : Fold
-    empty_in = empty_of (aggregate_of k.stream.demand)
+-- a record of the attributes l, where m are known
+module _ (l m : List KeyValue) (v : NumberValue) (k : StreamContents) (known : is_known_to m k.stream ≡ true) where
+  abbrev empty_in : Fold
+  empty_in = empty_of (aggregate_of k.stream.demand)
 
-    abbrev placed : List Entry
-    placed = entries_with_place k.stream.demand.limit empty_in (set_in k) (entries_in k)
+  abbrev placed : List Entry
+  placed = entries_with_place k.stream.demand.limit empty_in (set_in l k) (entries_in k)
 
-    abbrev recorded : StreamContents
-    recorded = with_record (set_in k) (amount_of v) k
+  abbrev recorded : StreamContents
+  recorded = with_record (set_in l k) (amount_of v) k
 
-    abbrev written : Entry → Entry
-    written = write (sample_of (aggregate_of k.stream.demand) (amount_of v))
+  abbrev written : Entry → Entry
+  written = write (sample_of (aggregate_of k.stream.demand) (amount_of v))
 
-    -- a set that has its place has it after a record
-    known-with : is_known_to l recorded.stream ≡ true
-    known-with =
-        settled-on k.stream.demand.limit (set_in k) (entry_for (set_in k) placed) written (write-keeps (sample_of (aggregate_of k.stream.demand) (amount_of v))) placed
-        ∙ settled_stays k.stream.demand.limit empty_in (set_in k) (set_in k) (entries_in k) known
+  -- a set that has its place has it after the record
+  known-with : is_known_to m recorded.stream ≡ true
+  known-with =
+      settled-on k.stream.demand.limit (set_in m k) (entry_for (set_in l k) placed) written (write-keeps (sample_of (aggregate_of k.stream.demand) (amount_of v))) placed
+      ∙ settled_stays k.stream.demand.limit empty_in (set_in m k) (set_in l k) (entries_in k) known
 
-    -- and uses the same entry
-    used-with : used_for (set_in k) recorded ≡ used_for (set_in k) k
-    used-with =
-        ap (entry_for (set_in k)) (settled_rests k.stream.demand.limit empty_in (set_in k) (entries_in recorded) known-with)
-        ∙ entry_for-on (set_in k) (entry_for (set_in k) placed) written (write-keeps (sample_of (aggregate_of k.stream.demand) (amount_of v))) placed
+  -- and uses the same entry
+  used-with : used_for (set_in m k) recorded ≡ used_for (set_in m k) k
+  used-with =
+      ap (entry_for (set_in m k)) (settled_rests k.stream.demand.limit empty_in (set_in m k) (entries_in recorded) known-with)
+      ∙ entry_for-on (set_in m k) (entry_for (set_in l k) placed) written (write-keeps (sample_of (aggregate_of k.stream.demand) (amount_of v))) placed
+      ∙ entry_stays k.stream.demand.limit empty_in (set_in m k) (set_in l k) (entries_in k) known
+      ∙ ap (entry_for (set_in m k)) (sym (settled_rests k.stream.demand.limit empty_in (set_in m k) (entries_in k) known))
 
-    -- whether the value is taken in or not
-    pub known-recorded : is_known_to l (contents_after_record v l k).stream ≡ true
-    known-recorded = by (beq (is_signed_value v) k.stream.demand.identity.signed)
-      where
-        by : (b : Bool) → is_known_to l (cond b recorded k).stream ≡ true
-        by true = known-with
-        by false = known
+  -- whether the value is taken in or not
+  pub known-beside : is_known_to m (contents_after_record v l k).stream ≡ true
+  known-beside = by (beq (is_signed_value v) k.stream.demand.identity.signed)
+    where
+      by : (b : Bool) → is_known_to m (cond b recorded k).stream ≡ true
+      by true = known-with
+      by false = known
 
-    used-kept : used_for (set_in k) (contents_after_record v l k) ≡ used_for (set_in k) k
-    used-kept = by (beq (is_signed_value v) k.stream.demand.identity.signed)
-      where
-        by : (b : Bool) → used_for (set_in k) (cond b recorded k) ≡ used_for (set_in k) k
-        by true = used-with
-        by false = refl
+  pub used-beside : used_for (set_in m (contents_after_record v l k)) (contents_after_record v l k) ≡ used_for (set_in m k) k
+  used-beside = by (beq (is_signed_value v) k.stream.demand.identity.signed)
+    where
+      by : (b : Bool) → used_for (set_in m (cond b recorded k)) (cond b recorded k) ≡ used_for (set_in m k) k
+      by true = used-with
+      by false = refl
 
--- ======== a record that keeps what is prepared ========
--- the aggregate is the one that the demand asks for, its stream knows the attributes, and their entry is prepared
-pub record IsKept (l : List KeyValue) (d : Demand) (a : AggregateContents) : Type 0 where
-  pub asked : IsAsked d a
-  pub known : is_known_to l (contents_of d a).stream ≡ true
-  pub pending : a.pending ≡ Some (used_for (set_for d l) (contents_of d a))
+-- a record of the attributes that are known
+pub known-recorded : (l : List KeyValue) (v : NumberValue) (k : StreamContents) → is_known_to l k.stream ≡ true → is_known_to l (contents_after_record v l k).stream ≡ true
+known-recorded l v k known = known-beside l l v k known
 
+-- ======== what is prepared ========
 module _ (l : List KeyValue) (d : Demand) (a : AggregateContents) where
   -- what is prepared for the attributes
   pub used-prepared : IsAsked d a → bound_to (set_of a.state.allow l) a.state.map_state ≡ used_for (set_for d l) (contents_of d a)
@@ -120,69 +116,3 @@ module _ (l : List KeyValue) (d : Demand) (a : AggregateContents) where
 
   pub placed-known : is_placed (used_for (set_for d l) (contents_of d a)) a.state.map_state.table.entries ≡ is_known_to l (contents_of d a).stream
   placed-known = placed-settled d.limit (empty_of (aggregate_of d)) (set_for d l) a.state.map_state.table.entries
-
-  -- once their entry is prepared
-  module _ (new : AggregateContents) (state : new.state ≡ a.state) (live : new.live ≡ a.live) where
-    pub prepared-same : new.reported ≡ a.reported → without_pending (contents_of d new) ≡ without_pending (contents_of d a)
-    prepared-same reported = λ i. without_pending (contents_of d (record a { state = state i; live = live i; reported = reported i }))
-
-    pub prepared-asked : new.is_signed ≡ a.is_signed → new.drains ≡ a.drains → IsAsked d a → IsAsked d new
-    prepared-asked signed drains is = record {
-      state = state ∙ (is.state ∙ ap (asked_aggregate d) (sym state));
-      signed = signed ∙ is.signed;
-      drains = drains ∙ is.drains;
-      unheld = λ seen. live ∙ is.unheld seen;
-    }
-
-    pub prepared-pending : IsAsked d a → new.pending ≡ Some (bound_to (set_of a.state.allow l) a.state.map_state) → new.pending ≡ Some (used_for (set_for d l) (contents_of d new))
-    prepared-pending is ready = ready ∙ ap Some (used-prepared is ∙ ap (λ (s : AggregateState). entry_for (set_for d l) (entries_with_place d.limit (empty_of (aggregate_of d)) (set_for d l) s.map_state.table.entries)) (sym state))
-
-  module _ (kept : IsKept l d a) where
-    abbrev held : StreamContents
-    held = contents_of d a
-
-    -- its entry is there
-    pub kept-placed : (s : AttributeSet) × (a.pending ≡ Some s) × (is_placed s a.state.map_state.table.entries ≡ true)
-    kept-placed = (used_for (set_for d l) held, kept.pending, placed-known ∙ kept.known)
-
-    module _ (v : NumberValue) (new : AggregateContents) (made : new ≡ record (any_after_commit v a) { pending = a.pending }) where
-      abbrev taken_in : AggregateContents
-      taken_in = any_after_commit v a
-
-      -- it is a record of the attributes
-      is-record : contents_of d taken_in ≡ contents_after_record v l held
-      is-record =
-          taken d a kept.asked taken_in v a.pending refl
-          ∙ ap (λ o. cond (beq (is_signed_value v) d.identity.signed) (committed_by o (amount_of v) held) held) kept.pending
-          ∙ ap (λ h. cond (beq (is_signed_value v) d.identity.signed) h held) (used-recorded (set_for d l) (amount_of v) held)
-
-      now-stream : (contents_of d new).stream ≡ (contents_after_record v l held).stream
-      now-stream = ap (λ (x : AggregateContents). (contents_of d x).stream) made ∙ ap (λ (h : StreamContents). h.stream) is-record
-
-      pub kept-made : without_pending (contents_of d new) ≡ contents_after_record v l (without_pending held)
-      kept-made = ap (λ x. without_pending (contents_of d x)) made ∙ ap without_pending is-record ∙ observed-settled v l held
-
-      asked-made : IsAsked d new
-      asked-made =
-          let is : IsAsked d taken_in = asked-taken d a kept.asked taken_in v a.pending refl in
-          subst (IsAsked d) (sym made) (record { state = is.state; signed = is.signed; drains = is.drains; unheld = is.unheld })
-
-      pub kept-still : IsKept l d new
-      kept-still = record {
-        asked = asked-made;
-        known = ap (is_known_to l) now-stream ∙ known-recorded l v held kept.known;
-        pending = ap (λ (x : AggregateContents). x.pending) made ∙ (kept.pending ∙ ap Some (sym (used-kept l v held kept.known) ∙ ap (λ (q : Stream). entry_for (set_for d l) (entries_with_place q.demand.limit (empty_of (aggregate_of q.demand)) (set_for d l) q.machine.table.entries)) (sym now-stream)));
-      }
-
--- so are records of several values
-module _ (l : List KeyValue) (d : Demand) where
-  abbrev after : NumberValue → AggregateContents → AggregateContents
-  after v a = record (any_after_commit v a) { pending = a.pending }
-
-  pub each-still : (vs : List NumberValue) (a : AggregateContents) → IsKept l d a → IsKept l d (any_after_commits vs a)
-  each-still [] a kept = kept
-  each-still (v ∷ vs) a kept = each-still vs (after v a) (kept-still l d a kept v (after v a) refl)
-
-  pub each-made : (vs : List NumberValue) (a : AggregateContents) → IsKept l d a → without_pending (contents_of d (any_after_commits vs a)) ≡ contents_after_each vs l (without_pending (contents_of d a))
-  each-made [] a kept = refl
-  each-made (v ∷ vs) a kept = each-made vs (after v a) (kept-still l d a kept v (after v a) refl) ∙ ap (contents_after_each vs l) (kept-made l d a kept v (after v a) refl)

@@ -38,6 +38,7 @@ IsHeldByFed instrument h p = EachOf (λ (q : Stream). is_fed p.feeds instrument 
 -- the change, of the streams that the instrument feeds, stands for this call, where the next handle has the number `next`
 abbrev pub StandsFor : ℕ → Change → ℕ → Call → Piped → Type 0
 StandsFor n (change.Prepared value) next call p = (l : List KeyValue) × (call ≡ Record n (number_of value) l) × IsReadyFor false n l p × FeedsType n (is_signed_value value) (part_of p)
+StandsFor n (change.Each values) next call p = ⊥
 StandsFor n (change.Empty value) next call p = (call ≡ Record n (number_of value) []) × FeedsType n (is_signed_value value) (part_of p)
 StandsFor n (change.Held h place value) next call p = (call ≡ RecordBound h (number_of value)) × FeedsType n (is_signed_value value) (part_of p) × FeedsSynchronous n (part_of p) × IsHeldByFed n h (part_of p)
 StandsFor n (change.Bind h) next call p = (l : List KeyValue) × (call ≡ Bind n l) × (h ≡ next) × IsReadyFor true n l p × FeedsSynchronous n (part_of p) × IsNewAt h (part_of p)

@@ -3,7 +3,7 @@ use Rattle.std.specs.Prelude.{◌≡◌, ◌<◌, ℕ, Bool, not, cond, ◌||◌
 use Rattle.std.specs.List.{IsDistinct, AllByRecursion}
 use Rattle.otel_common.specs.declared.attributes.KeyValue.{KeyValue}
 use Rattle.otel_data.specs.declared.numbers.NumberValue.{NumberValue}
-use Rattle.otel_aggregate.specs.Any.{is_signed_value, amount_of}
+use Rattle.otel_aggregate.specs.Any.{HaveOneType, is_signed_value, amount_of}
 use Rattle.otel_model.specs.Calls.{Number, Record, or_else}
 use Rattle.otel_model.specs.Demands.{Identity, Demand, ReaderAnswers, identity_eq, is_drop, is_dropped, fed_identities}
 use Rattle.otel_model.specs.State.{Stream, ReaderPart}
@@ -11,6 +11,8 @@ use Rattle.otel_model.specs.Machine.{changed_at, part_after_call, part_after_dem
 use Rattle.otel_model.specs.Sent.{is_fed, set_for}
 use Rattle.otel_model.specs.Streams.{is_delta, is_drained}
 use Rattle.otel_model_stream.specs.Totals.{has_number}
+use Rattle.opentelemetry_sdk.specs.declared.pipeline.change.Change.{Change}
+use Rattle.opentelemetry_sdk.specs.declared.pipeline.change.Change.TheVariants as change
 use Rattle.opentelemetry_sdk.specs.pipeline.Streams.{StreamContents, used_for, without_pending, contents_after_collection}
 
 -- a reader's answers; its streams, in order of making; for each instrument the numbers of those that it feeds; and the
@@ -143,6 +145,15 @@ number_of value = record { signed = is_signed_value value; amount = amount_of va
 abbrev pub part_after_each : ℕ → List NumberValue → List KeyValue → ReaderPart → ReaderPart
 part_after_each n vs l p = fold (λ (p : ReaderPart) (v : NumberValue). part_after_call 0 (Record n (number_of v) l) p) p vs
 
+-- if the change is one of several values, these have one number type
+abbrev pub IsAlike : Change → Type 0
+IsAlike (change.Prepared value) = Unit {0}
+IsAlike (change.Each values) = HaveOneType values.now
+IsAlike (change.Empty value) = Unit {0}
+IsAlike (change.Held h place value) = Unit {0}
+IsAlike (change.Bind h) = Unit {0}
+IsAlike (change.Unbind h) = Unit {0}
+
 -- the elements, once f is done to the one with each of these numbers
 abbrev pub changed_each : {X : Type 0} → (X → X) → List ℕ → List X → List X
 changed_each f ns xs = fold (λ ys n. changed_at n f ys) xs ns
@@ -154,7 +165,7 @@ fed_by instrument p = or_else (slice_get p.feeds instrument) []
 -- the entry that the set of these attributes uses is prepared in the stream, for a record or, if it `binds`, for a bind: then
 -- room for a handle is made too, unless the stream is drained
 pub record IsReady (binds : Bool) (l : List KeyValue) (k : StreamContents) : Type 0 where
-  pub set : k.pending ≡ Some (used_for (set_for k.stream.demand l) k)
+  pub set : k.pending ≡ used_for (set_for k.stream.demand l) k ∷ []
   pub room : binds ≡ true → k.room ≡ not (is_drained k.stream.demand)
 
 -- the same of a stream, if there is one
@@ -178,9 +189,13 @@ IsReadyFor binds instrument l p = AreReady binds l p.streams (fed_by instrument 
 abbrev pub all_without_pending : List StreamContents → List StreamContents
 all_without_pending streams = map without_pending streams
 
--- the reader's part, once f is done to each stream that the instrument feeds
+-- the reader, once f is done to each stream that the instrument feeds
+abbrev pub changed_by : (StreamContents → StreamContents) → ℕ → Piped → Piped
+changed_by f instrument p = record p { streams = changed_each f (fed_by instrument p) p.streams }
+
+-- its part
 abbrev pub part_changed_by : (StreamContents → StreamContents) → ℕ → Piped → ReaderPart
-part_changed_by f instrument p = part_by p.answers (changed_each f (fed_by instrument p) p.streams) p.feeds
+part_changed_by f instrument p = part_of (changed_by f instrument p)
 
 -- for each stream whether it resets, and its demand, which no record changes
 abbrev pub terms_of : List StreamContents → List (Bool × Demand)

@@ -1,5 +1,5 @@
 -- One stream of a reader: the model's stream, with what the model leaves out.
-use Rattle.std.specs.Prelude.{ℕ, ◌+◌, Bool, true, false, cond, ◌&&◌, not, List, [], map, fold, Option, None, Some, is_none, ◌≡◌}
+use Rattle.std.specs.Prelude.{ℕ, ◌+◌, Bool, true, false, cond, ◌&&◌, not, List, [], ◌∷◌, drop, map, fold, Option, None, Some, is_none, ◌≡◌}
 use Rattle.std.specs.Bool.{beq}
 use Rattle.otel_common.specs.declared.metrics.Temporality.TheVariants.{Cumulative, Delta}
 use Rattle.otel_common.specs.declared.attributes.KeyValue.{KeyValue}
@@ -14,6 +14,7 @@ use Rattle.otel_model_stream.specs.Observed.{difference}
 use Rattle.otel_model_stream.specs.Totals.{points_total}
 use Rattle.otel_aggregate.specs.Any.{is_signed_value, amount_of}
 use Rattle.otel_aggregate.specs.Streams.{AggregateState, AggregateContents}
+use Rattle.otel_aggregate.specs.value_map.Contents.{is_next_placed, next_of}
 use Rattle.otel_model.specs.Calls.{is_observable}
 use Rattle.otel_model.specs.Demands.{Aggregation, Drop, Default, Sum, LastValue, ExplicitBucketHistogram, Demand, is_valid}
 use Rattle.otel_model.specs.Collections.{aggregated_metrics, has_points}
@@ -24,12 +25,12 @@ use Rattle.otel_model.specs.Streams.{aggregate_of, is_drained, is_monotonic_kind
 use Rattle.opentelemetry_sdk.specs.declared.pipeline.change.Change.{Change}
 use Rattle.opentelemetry_sdk.specs.declared.pipeline.change.Change.TheVariants as change
 
--- a stream, whether each collection resets it, the set of the entry that the prepared record or bind uses, if any, and
--- whether room is made for a handle
+-- a stream, whether each collection resets it, the sets of the entries that the prepared records or the prepared bind use, the
+-- next one first, and whether room is made for a handle
 pub record StreamContents : Type 0 where
   pub stream : Stream
   pub resets : Bool
-  pub pending : Option AttributeSet
+  pub pending : List AttributeSet
   pub room : Bool
 
 -- ======== what a demand asks ========
@@ -82,7 +83,7 @@ contents_of d a = record {
 
 -- a stream without records, made at a moment
 abbrev pub new_contents : Bool → Demand → ℕ → StreamContents
-new_contents resets d now = record { stream = new_stream now d; resets = resets; pending = None; room = false }
+new_contents resets d now = record { stream = new_stream now d; resets = resets; pending = []; room = false }
 
 -- ======== records ========
 -- the set of the entry that a record or a bind of the set uses
@@ -96,7 +97,7 @@ with_event e h = record h {
     machine = step (aggregate_of h.stream.demand) Kind.Cumulative h.stream.demand.limit h.stream.machine e;
     recorded = recorded_with (aggregate_of h.stream.demand) h.stream.machine h.stream.recorded e;
   };
-  pending = None;
+  pending = [];
 }
 
 -- after a record of the set
@@ -108,6 +109,22 @@ abbrev pub committed_by : Option AttributeSet → Amount → StreamContents → 
 committed_by None v h = h
 committed_by (Some s) v h = with_record s v h
 
+-- after the prepared record of a value; a stream of the other number type doesn't change
+abbrev pub contents_after_commit : NumberValue → StreamContents → StreamContents
+contents_after_commit value k = cond (beq (is_signed_value value) k.stream.demand.identity.signed) (committed_by (next_of k.pending) (amount_of value) k) k
+
+-- once a record of these attributes is prepared beside the others, to be taken in before them
+abbrev pub contents_prepared : List KeyValue → StreamContents → StreamContents
+contents_prepared l k = record k { pending = used_for (set_for k.stream.demand l) k ∷ k.pending }
+
+-- after records of these values for the set that is prepared next, with all that is prepared
+abbrev pub contents_with_next : List NumberValue → StreamContents → StreamContents
+contents_with_next values h = fold (λ (k : StreamContents) (value : NumberValue). record (contents_after_commit value k) { pending = k.pending }) h values
+
+-- after the same records, if that set's entry is there; what is prepared after it stays prepared
+abbrev pub contents_after_next : List NumberValue → StreamContents → StreamContents
+contents_after_next values k = cond (is_next_placed k.pending k.stream.machine.table.entries) (record (contents_with_next values k) { pending = drop 1 k.pending }) k
+
 -- after a record of a value with attributes; a stream of the other number type doesn't change
 abbrev pub contents_after_record : NumberValue → List KeyValue → StreamContents → StreamContents
 contents_after_record value l h = cond (beq (is_signed_value value) h.stream.demand.identity.signed) (with_record (set_for h.stream.demand l) (amount_of value) h) h
@@ -118,7 +135,7 @@ contents_after_each values l h = fold (λ (k : StreamContents) (value : NumberVa
 
 -- the stream, with nothing prepared and no room made
 abbrev pub without_pending : StreamContents → StreamContents
-without_pending h = record h { pending = None; room = false }
+without_pending h = record h { pending = []; room = false }
 
 -- ======== handles ========
 -- after a bind of the set as this handle, if there is a set; it uses the room
@@ -134,10 +151,11 @@ takes value k = beq (is_signed_value value) k.stream.demand.identity.signed
 -- after a change. A stream of the other number type takes no record in. A bind needs room, and a number that no live handle
 -- has; a stream of an observable instrument has no handles, and so has one that is drained
 abbrev pub contents_after : Change → StreamContents → StreamContents
-contents_after (change.Prepared value) k = cond (takes value k) (committed_by k.pending (amount_of value) k) k
+contents_after (change.Prepared value) k = contents_after_commit value k
+contents_after (change.Each values) k = contents_after_next values.now k
 contents_after (change.Empty value) k = cond (takes value k) (with_record none_set (amount_of value) k) k
 contents_after (change.Held h place value) k = cond (not (is_drained k.stream.demand) && takes value k) (with_event (Event.RecordBound h (amount_of value)) k) k
-contents_after (change.Bind h) k = cond (not (is_observable k.stream.demand.identity.kind) && (k.room && is_none (held_by h k.stream.machine.live))) (bound_by k.pending h k) k
+contents_after (change.Bind h) k = cond (not (is_observable k.stream.demand.identity.kind) && (k.room && is_none (held_by h k.stream.machine.live))) (bound_by (next_of k.pending) h k) k
 contents_after (change.Unbind h) k = cond (is_drained k.stream.demand) k (with_event (Event.Unbind h) k)
 
 -- ======== collections ========

@@ -1,18 +1,16 @@
 //! Calls that change streams of one reader, one after another.
 
 ghost use Rattle.std.specs.Prelude.{◌≡◌, ◌<◌, [], true, false, All, slice_get, OnOk, IsOk};
-ghost use Rattle.otel_aggregate.specs.Any.{HaveOneType};
 ghost use Rattle.otel_model.specs.Calls.{or_else};
 ghost use Rattle.opentelemetry_sdk.specs.pipeline.Known.{IsKnownIfThere, are_known};
-ghost use Rattle.opentelemetry_sdk.specs.pipeline.Pipelines.{AreNumbers, AreReady, all_without_pending, terms_of, changed_each, all_after_collection};
-ghost use Rattle.opentelemetry_sdk.specs.pipeline.Streams.{contents_after, contents_after_each};
+ghost use Rattle.opentelemetry_sdk.specs.pipeline.Pipelines.{AreNumbers, AreReady, IsAlike, all_without_pending, changed_each, all_after_collection};
+ghost use Rattle.opentelemetry_sdk.specs.pipeline.Streams.{contents_after, contents_prepared};
 
 use crate::pipeline::aggregations::is_drop;
 use crate::pipeline::change::Change;
 use crate::pipeline::metric_stream::MetricStream;
 use otel_aggregate::value_map::hashed_key::GivenAttributes;
 use otel_common::lists::Items;
-use otel_data::numbers::NumberValue;
 use std::alloc::AllocError;
 
 /// The numbers of the streams that an instrument feeds; none if there is no such instrument.
@@ -45,26 +43,23 @@ pub(crate) fn prepare_each(
     Ok(())
 }
 
-/// Takes in records of these values with the attributes in each of these streams, if they all know the attributes, and
-/// answers whether they do. If one doesn't, those before it have taken the records in.
-#[inline(never)]
-pub(crate) fn record_known_each(
+/// Prepares a record with these attributes in each of these streams, beside those that are prepared, if the streams know the
+/// attributes, and answers whether they all do.
+#[inline(always)]
+pub(crate) fn prepare_known_each(
     streams: &mut Vec<MetricStream>,
     feeds: &[usize],
-    values: &[NumberValue],
     attributes: &GivenAttributes,
 ) -> bool
-    requires numbers { AreNumbers streams.old.items feeds.now }
-    requires alike { HaveOneType values.now }
-    ensures told { result ≡ are_known attributes.now streams.old.items feeds.now }
-    ensures made { result ≡ true → all_without_pending streams.new.items ≡ all_without_pending (changed_each (contents_after_each values.now attributes.now) feeds.now streams.old.items) }
-    ensures idle { values.now ≡ [] → all_without_pending streams.new.items ≡ all_without_pending streams.old.items }
-    ensures kept { terms_of streams.new.items ≡ terms_of streams.old.items }
+    requires { AreNumbers streams.old.items feeds.now }
+    ensures ready { result ≡ true → streams.new.items ≡ changed_each (contents_prepared attributes.now) feeds.now streams.old.items }
+    ensures known { result ≡ true → are_known attributes.now streams.old.items feeds.now ≡ true }
+    ensures same { all_without_pending streams.new.items ≡ all_without_pending streams.old.items }
 {
     for k in feeds {
         let stream = &mut streams[*k];
         // Nothing feeds a stream that drops. The test tells the prover so.
-        if is_drop(&stream.demand().aggregation) || !stream.record_known(values, attributes) {
+        if is_drop(&stream.demand().aggregation) || !stream.prepare_known(attributes) {
             return false;
         }
     }
@@ -74,9 +69,14 @@ pub(crate) fn record_known_each(
 /// Carries a change out in each of these streams, and returns the place of the handle that it bound in one of them. It
 /// mostly has the same place in all.
 #[inline(never)]
-pub(crate) fn change_each(streams: &mut Vec<MetricStream>, feeds: &[usize], change: Change) -> usize
-    requires { AreNumbers streams.old.items feeds.now }
-    ensures { streams.new.items ≡ changed_each (contents_after change) feeds.now streams.old.items }
+pub(crate) fn change_each(
+    streams: &mut Vec<MetricStream>,
+    feeds: &[usize],
+    change: Change<'_>,
+) -> usize
+    requires numbers { AreNumbers streams.old.items feeds.now }
+    requires alike { IsAlike change }
+    ensures { streams.new.items ≡ changed_each (contents_after change.entry) feeds.now streams.old.items }
 {
     let mut place = 0;
     for k in feeds {

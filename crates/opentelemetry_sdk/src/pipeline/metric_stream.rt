@@ -3,13 +3,12 @@
 ghost use Rattle.std.specs.Prelude.{◌≡◌, nat_lt, true, false, Some, IfOk, IfSome, IsOk, OnOk, OnErr, IsOkUnless};
 ghost use Rattle.std.specs.Option.{option_map};
 ghost use Rattle.otel_common.specs.Temporalities.{resets};
-ghost use Rattle.otel_aggregate.specs.Any.{HaveOneType};
 ghost use Rattle.otel_model.specs.Calls.{is_observable};
 ghost use Rattle.otel_model.specs.Collections.{number_of_points};
 ghost use Rattle.opentelemetry_sdk.specs.pipeline.Known.{is_known_to};
-ghost use Rattle.opentelemetry_sdk.specs.pipeline.Pipelines.{IsReady};
+ghost use Rattle.opentelemetry_sdk.specs.pipeline.Pipelines.{IsReady, IsAlike};
 ghost use Rattle.opentelemetry_sdk.specs.pipeline.Observations.{IsDraftOf, draft_of, drafted};
-ghost use Rattle.opentelemetry_sdk.specs.pipeline.Streams.{IsMakeable, new_contents, without_pending, contents_after, contents_after_record, contents_after_each, contents_after_collection, shown_metric, if_points};
+ghost use Rattle.opentelemetry_sdk.specs.pipeline.Streams.{IsMakeable, new_contents, without_pending, contents_after, contents_after_record, contents_prepared, contents_after_collection, shown_metric, if_points};
 
 use crate::pipeline::aggregations::{is_observable, settings_of};
 use crate::pipeline::change::Change;
@@ -134,24 +133,15 @@ impl MetricStream {
         self.aggregate.measure(value, attributes)
     }
 
-    /// Takes in records of these values with the attributes, if they have the stream's number type, provided that a record
-    /// of the attributes makes no entry, and answers whether that is so. Otherwise nothing changes. Looks the attributes up
-    /// once.
-    pub(crate) fn record_known(
-        &mut self,
-        values: &[NumberValue],
-        attributes: &GivenAttributes,
-    ) -> bool
-        requires { HaveOneType values.now }
-        ensures told { result ≡ is_known_to attributes.now self.old.stream }
-        ensures made { result ≡ true → without_pending self.new ≡ without_pending (contents_after_each values.now attributes.now self.old) }
-        ensures unmade { result ≡ false → without_pending self.new ≡ without_pending self.old }
+    /// Prepares a record with these attributes beside those that are prepared, to be taken in before them, if it makes no
+    /// entry, and answers whether it did. What the stream shows stays unchanged.
+    #[inline(always)]
+    pub(crate) fn prepare_known(&mut self, attributes: &GivenAttributes) -> bool
+        ensures ready { result ≡ true → self.new ≡ contents_prepared attributes.now self.old }
+        ensures known { result ≡ true → is_known_to attributes.now self.old.stream ≡ true }
+        ensures same { without_pending self.new ≡ without_pending self.old }
     {
-        if self.aggregate.prepare(attributes).is_err() || !self.aggregate.has_entry() {
-            return false;
-        }
-        self.aggregate.commit_each(values);
-        true
+        self.aggregate.prepare_known(attributes)
     }
 
     /// Carries a change out, and returns the place of the handle that it bound, for a record through it; 0 if it bound
@@ -160,12 +150,17 @@ impl MetricStream {
     /// A record is taken in if the value has the stream's number type; one that was prepared, if there is one; and one
     /// through a handle, if the stream has it. A bind is made if one is prepared and the handle isn't live already.
     #[inline(always)]
-    pub(crate) fn change(&mut self, change: Change) -> usize
-        ensures { self.new ≡ contents_after change self.old }
+    pub(crate) fn change(&mut self, change: Change<'_>) -> usize
+        requires { IsAlike change }
+        ensures { self.new ≡ contents_after change.entry self.old }
     {
         match change {
             Change::Prepared(value) => {
                 self.aggregate.commit(value);
+                0
+            }
+            Change::Each(values) => {
+                self.aggregate.commit_each(values);
                 0
             }
             Change::Empty(value) => {

@@ -3,14 +3,14 @@
 ghost use Rattle.std.specs.Prelude.{◌≡◌, ℕ, [], true, false, All, map, IsOk, OnOk, OnErr, IsOkUnless};
 ghost use Rattle.std.specs.List.{list_any, list_all, AllByRecursion as EachOf};
 ghost use Rattle.std.specs.Option.{option_map};
-ghost use Rattle.otel_aggregate.specs.Any.{HaveOneType};
 ghost use Rattle.otel_model.specs.Calls as model;
 ghost use Rattle.otel_model.specs.Machine as machine;
 ghost use Rattle.otel_model.specs.Machine.{part_after_call};
 ghost use Rattle.otel_model.specs.Places.{Listed, IsPlaced};
 ghost use Rattle.opentelemetry_sdk.specs.pipeline.Handles.{FeedsSynchronous, IsNewAt, StandsFor};
 ghost use Rattle.opentelemetry_sdk.specs.pipeline.Known.{is_known_at};
-ghost use Rattle.opentelemetry_sdk.specs.pipeline.Pipelines.{part_of, part_after_each, has_stream_at, HashesFrom, IsReadyFor};
+ghost use Rattle.opentelemetry_sdk.specs.pipeline.Pipelines.{part_of, changed_by, has_stream_at, HashesFrom, IsAlike, IsLawful, IsReadyFor};
+ghost use Rattle.opentelemetry_sdk.specs.pipeline.Streams.{contents_after, contents_prepared};
 ghost use Rattle.opentelemetry_sdk.specs.pipeline.Views.{views_answering};
 ghost use Rattle.opentelemetry_sdk.specs.Correspondence.{number_of};
 ghost use Rattle.opentelemetry_sdk.specs.States.{IsGoodIn, FeedType};
@@ -52,8 +52,11 @@ fn prepare_all(
 /// Carries a change out in the streams that an instrument feeds, at all readers, and returns the place of the handle that
 /// it bound in one of them. It mostly has the same place in all.
 #[inline(always)]
-pub(crate) fn change_all(pipelines: &mut [Pipeline], instrument: usize, change: Change) -> usize
-    ensures { (next : ℕ) (call : model.Call) → All (StandsFor instrument change next call) pipelines.old → map part_of pipelines.new ≡ map (part_after_call next call) (map part_of pipelines.old) }
+pub(crate) fn change_all(pipelines: &mut [Pipeline], instrument: usize, change: Change<'_>) -> usize
+    requires { IsAlike change }
+    ensures streams { pipelines.new ≡ map (changed_by (contents_after change.entry) instrument) pipelines.old }
+    ensures lawful { EachOf IsLawful pipelines.old }
+    ensures parts { (next : ℕ) (call : model.Call) → All (StandsFor instrument change.entry next call) pipelines.old → map part_of pipelines.new ≡ map (part_after_call next call) (map part_of pipelines.old) }
 {
     if pipelines.len() == 1 {
         return pipelines[0].change(instrument, change);
@@ -170,24 +173,20 @@ pub(crate) fn bind_or_none(
     Ok(change_all(pipelines, instrument, Change::Bind(handle)))
 }
 
-/// Takes in records of these values with the attributes in the streams that an instrument feeds, at all readers, if these
-/// all know the attributes, and answers whether they do. If one doesn't, others may have taken the records in; without
-/// values nothing changes.
-pub(crate) fn record_known_all(
+/// Prepares a record with these attributes in the streams that an instrument feeds, at all readers, beside those that are
+/// prepared, if the streams know the attributes, and answers whether they all do.
+pub(crate) fn prepare_known_all(
     pipelines: &mut [Pipeline],
     instrument: usize,
-    values: &[NumberValue],
     attributes: &GivenAttributes,
 ) -> bool
-    requires typed { EachOf (λ v. FeedType instrument (number_of v) (map part_of pipelines.old)) values.now }
-    requires alike { HaveOneType values.now }
-    ensures told { result ≡ list_all (is_known_at instrument attributes.now) (map part_of pipelines.old) }
+    ensures ready { result ≡ true → pipelines.new ≡ map (changed_by (contents_prepared attributes.now) instrument) pipelines.old }
+    ensures known { result ≡ true → list_all (is_known_at instrument attributes.now) (map part_of pipelines.old) ≡ true }
     ensures placed { result ≡ true → EachOf (λ p. EachOf (IsPlaced p.feeds (Listed instrument attributes.now)) p.streams) (map part_of pipelines.old) }
-    ensures made { result ≡ true → map part_of pipelines.new ≡ map (part_after_each instrument values.now attributes.now) (map part_of pipelines.old) }
-    ensures idle { values.now ≡ [] → map part_of pipelines.new ≡ map part_of pipelines.old }
+    ensures same { map part_of pipelines.new ≡ map part_of pipelines.old }
 {
     for i in 0..pipelines.len() {
-        if !pipelines[i].record_known(instrument, values, attributes) {
+        if !pipelines[i].prepare_known(instrument, attributes) {
             return false;
         }
     }

@@ -1,6 +1,11 @@
 -- Where a record's entry is, once its set has a place.
-use Rattle.std.proofs.Common.{ℕ, ◌-◌, ◌^◌, ◌<◌, ◌≡◌, List, [], ◌∷◌, ◌++◌, nat_lt, Bool, true, false, cond, ◌||◌, Option, Some, None, append-nil, refl, ap, arith, subst, sym, ◌∙◌}
+use Rattle.std.proofs.Common.{ℕ, suc, ◌-◌, ◌^◌, ◌<◌, ◌≡◌, List, [], ◌∷◌, ◌++◌, nat_lt, Bool, true, false, cond, ◌||◌, Option, Some, None, append-nil, length, map, reverse, true≢false, ne_eqb, slice_get, refl, ap, arith, subst, sym, ◌∙◌}
+use Rattle.std.specs.List.{AllByRecursion}
 use Rattle.std.specs.Map.{lookup, keys_of}
+use Rattle.std.specs.Global.{Vec}
+use Rattle.std.specs.Option.{option_to_list}
+use Rattle.std.specs.Prelude.{IfSome, not, ◌==◌}
+use Rattle.std.proofs.lemmas.List.{length-append, map-append, reverse-append}
 use Rattle.std.proofs.lemmas.Bool.{cond_both, or_left, or_right, or_parts}
 use Rattle.std.proofs.lemmas.List.Folds.{list_any-append}
 use Rattle.otel_common.specs.Canonical.{canon}
@@ -13,9 +18,9 @@ use Rattle.otel_model_stream.specs.Maps.{MapState, with_place, measured_map, mea
 use Rattle.otel_aggregate.specs.value_map.Keyed.{Slotted, IsNew}
 use Rattle.otel_aggregate.specs.value_map.Slots.{Kept, entry_of, new_kept}
 use Rattle.otel_aggregate.specs.value_map.Numbers.{Numbers, number_of, KeepNumbers, is_placed, set_named, handles_in, handles_at}
-use Rattle.otel_aggregate.specs.value_map.Contents.{IsPlan, IsPlanAt, IsSound, IsReady, pending_in, used_by}
+use Rattle.otel_aggregate.specs.value_map.Contents.{IsPlan, IsPlanAt, IsSound, IsReady, NamesEntry, is_new, is_next_placed, next_of, pending_in, sets_named, used_by}
 use Rattle.otel_aggregate.specs.declared.value_map.pending.Pending.{Pending}
-use Rattle.otel_aggregate.specs.declared.value_map.pending.Pending.TheVariants.{Nothing, At, New}
+use Rattle.otel_aggregate.specs.declared.value_map.pending.Pending.TheVariants.{Nothing, At, New, Several}
 use Rattle.otel_aggregate.proofs.HandleLemmas.{has-on}
 use Rattle.otel_aggregate.proofs.value_map.KeyedLemmas.{same_set, set_eq-self, set_eq-flip}
 use Rattle.otel_aggregate.proofs.value_map.AddLemmas.{lookup-pushed, numbers-pushed}
@@ -77,7 +82,7 @@ pub measured-at : (t after : Slotted) (limit : ℕ) (empty : Fold) (l : List Key
 measured-at t after limit empty l n v plan written aliases =
     let m : MapState = record { limit = limit; empty = empty; table = t.table } in
     let p : IsPlan t (nat_lt (number_counted t.table.entries) limit) l (At n) = plan (nat_lt (number_counted t.table.entries) limit) in
-    let named : Some (set_named n t.numbers) ≡ Some (canon l) = (plan true).pending ∙ ap (λ b. Some (cond b (canon l) over_set)) (or_right (is_placed (canon l) t.table.entries) true refl) in
+    let named : set_named n t.numbers ∷ [] ≡ canon l ∷ [] = (plan true).pending ∙ ap (λ b. cond b (canon l) over_set ∷ []) (or_right (is_placed (canon l) t.table.entries) true refl) in
     let same : set_named n t.numbers ≡ canon l = cc in
     let there = p.sound true refl in
     let number : number_of (canon l) t.numbers ≡ Some n = subst (λ s. number_of s t.numbers ≡ Some n) same there.0 in
@@ -139,18 +144,26 @@ sound-nothing t few room p is = subst (IsSound t few room) (sym is) tt
 pub new-prepared : (t : Slotted) (few room : Bool) (p : Pending) (set : AttributeSet) (list : Option (List KeyValue)) → IsSound t few room p → New set list ≡ p → IsReady t few room set list
 new-prepared t few room p set list sound is = subst (IsSound t few room) (sym is) sound
 
-pub new-set : (ns : Numbers) (p : Pending) (set s : AttributeSet) (list : Option (List KeyValue)) → New set list ≡ p → pending_in ns p ≡ Some s → set ≡ s
-new-set ns p set s list is e = let both : Some set ≡ Some s = ap (pending_in ns) is ∙ e in cc
+pub new-set : (ns : Numbers) (p : Pending) (set s : AttributeSet) (list : Option (List KeyValue)) → New set list ≡ p → next_of (pending_in ns p) ≡ Some s → set ≡ s
+new-set ns p set s list is e = let both : Some set ≡ Some s = ap (λ q. next_of (pending_in ns q)) is ∙ e in cc
 
--- what uses an entry that is there can be carried out still once that entry changed
-pub sound-changed : (t after : Slotted) (few room now_few now_room : Bool) (p : Pending) (n : ℕ) (f : Entry → Entry) → ((e : Entry) → (f e).set ≡ e.set) → p ≡ At n → IsSound t few room p
-    → ((s : AttributeSet) → number_of s t.numbers ≡ Some n → after.table ≡ at_entry s f t.table) → after.numbers ≡ t.numbers → IsSound after now_few now_room p
-sound-changed t after few room now_few now_room p n f keeps is sound written numbers =
-    let g : AttributeSet = set_named n t.numbers in
-    let there = subst (IsSound t few room) is sound in
-    let placed : is_placed g after.table.entries ≡ true = ap (λ (x : Table). is_placed g x.entries) (written g there.0) ∙ ap (λ b. set_eq g none_set || b) (has-on f keeps g g t.table.entries) ∙ there.1 in
-    subst (IsSound after now_few now_room) (sym is)
-    (subst (λ (ns : Numbers). (number_of (set_named n ns) ns ≡ Some n) × (is_placed (set_named n ns) after.table.entries ≡ true)) (sym numbers) (there.0, placed))
+-- what uses entries that are there can be carried out still once one of these changed
+module _ (t after : Slotted) (x : AttributeSet) (f : Entry → Entry) (keeps : (e : Entry) → (f e).set ≡ e.set) (written : after.table ≡ at_entry x f t.table) (numbers : after.numbers ≡ t.numbers) where
+  still-named : (n : ℕ) → NamesEntry t n → NamesEntry after n
+  still-named n there =
+      let g : AttributeSet = set_named n t.numbers in
+      let placed : is_placed g after.table.entries ≡ true = ap (λ (y : Table). is_placed g y.entries) written ∙ ap (λ b. set_eq g none_set || b) (has-on f keeps x g t.table.entries) ∙ there.1 in
+      subst (λ (ns : Numbers). (number_of (set_named n ns) ns ≡ Some n) × (is_placed (set_named n ns) after.table.entries ≡ true)) (sym numbers) (there.0, placed)
+
+  all-named : (ns : List ℕ) → AllByRecursion (NamesEntry t) ns → AllByRecursion (NamesEntry after) ns
+  all-named [] all = tt
+  all-named (n ∷ ns) all = (still-named n all.0, all-named ns all.1)
+
+  pub sound-changed : (few room now_few now_room : Bool) (p : Pending) → is_new p ≡ false → IsSound t few room p → IsSound after now_few now_room p
+  sound-changed few room now_few now_room Nothing old sound = tt
+  sound-changed few room now_few now_room (At n) old sound = still-named n sound
+  sound-changed few room now_few now_room (New set list) old sound = absurd (true≢false old)
+  sound-changed few room now_few now_room (Several ns) old sound = all-named ns.items sound
 
 -- the numbers with one more
 numbers-added : (old new : Numbers) (s : AttributeSet) (n : ℕ) → new.none ≡ old.none → new.sets ≡ old.sets ++ (s, n) ∷ [] → IsNew old.sets s → KeepNumbers old new × (number_of s new ≡ Some n)
@@ -179,10 +192,59 @@ placed limit empty t after n s used counted lasting slot place new made table no
     }
 
 -- nothing is prepared any more
-pub nothing-left : (ns : Numbers) (p : Pending) → pending_in ns p ≡ None → p ≡ Nothing
-nothing-left ns Nothing e = refl
-nothing-left ns (At n) e = absurd (cc)
-nothing-left ns (New set list) e = absurd (cc)
+pub sound-spent : (t : Slotted) (few room : Bool) (ns : Numbers) (p : Pending) → pending_in ns p ≡ [] → IsSound t few room p
+sound-spent t few room ns Nothing e = tt
+sound-spent t few room ns (At n) e = absurd (cc)
+sound-spent t few room ns (New set list) e = absurd (cc)
+sound-spent t few room ns (Several numbers) e = by numbers.items e
+  where
+    by : (ks : List ℕ) → sets_named ns ks ≡ [] → AllByRecursion (NamesEntry t) ks
+    by [] e = tt
+    by (k ∷ ks) e = absurd (omega (arith, ap length (sym (reverse-append (set_named k ns ∷ []) (map (λ (n : ℕ). set_named n ns) ks)) ∙ e), length-append (sets_named ns ks) (set_named k ns ∷ [])))
+
+-- ======== several records ========
+-- the last of these numbers names the next set
+named-push : (ns : Numbers) (ks : List ℕ) (k : ℕ) → sets_named ns (ks ++ k ∷ []) ≡ set_named k ns ∷ sets_named ns ks
+named-push ns ks k = ap reverse (map-append (λ (n : ℕ). set_named n ns) ks (k ∷ [])) ∙ reverse-append (map (λ (n : ℕ). set_named n ns) ks) (set_named k ns ∷ [])
+
+module _ (t : Slotted) where
+  all-last : (ks : List ℕ) (k : ℕ) → AllByRecursion (NamesEntry t) (ks ++ k ∷ []) → NamesEntry t k
+  all-last [] k all = all.0
+  all-last (j ∷ js) k all = all-last js k all.1
+
+  -- the number that is taken out
+  pub next-taken : (ks rest : List ℕ) (r : Option ℕ) → ks ≡ rest ++ option_to_list r → AllByRecursion (NamesEntry t) ks → IfSome r (λ n. NamesEntry t n × (next_of (sets_named t.numbers ks) ≡ Some (set_named n t.numbers)))
+  next-taken ks rest None e all = tt
+  next-taken ks rest (Some n) e all = (all-last rest n (subst (AllByRecursion (NamesEntry t)) e all), ap (λ js. next_of (sets_named t.numbers js)) e ∙ ap next_of (named-push t.numbers rest n))
+
+  next-append : (ss : List AttributeSet) (s : AttributeSet) → is_next_placed ss t.table.entries ≡ true → is_next_placed (ss ++ s ∷ []) t.table.entries ≡ true
+  next-append [] s e = absurd (true≢false (sym e))
+  next-append (r ∷ rs) s e = e
+
+  next-named : (k : ℕ) (ks : List ℕ) → AllByRecursion (NamesEntry t) (k ∷ ks) → is_next_placed (sets_named t.numbers (k ∷ ks)) t.table.entries ≡ true
+  next-named k [] all = all.0.1
+  next-named k (j ∷ js) all =
+      ap (λ ss. is_next_placed ss t.table.entries) (reverse-append (set_named k t.numbers ∷ []) (map (λ (n : ℕ). set_named n t.numbers) (j ∷ js)))
+      ∙ next-append (sets_named t.numbers (j ∷ js)) (set_named k t.numbers) (next-named j js all.1)
+
+  next-still : (ss : List AttributeSet) (r s : AttributeSet) → next_of ss ≡ Some r → next_of (ss ++ s ∷ []) ≡ Some r
+  next-still [] r s e = absurd (cc)
+  next-still (q ∷ qs) r s e = e
+
+  pub last-named : (ks : List ℕ) (n : ℕ) → Some n ≡ slice_get ks (length ks - 1) → AllByRecursion (NamesEntry t) ks → NamesEntry t n × (next_of (sets_named t.numbers ks) ≡ Some (set_named n t.numbers))
+  last-named [] n e all = absurd (cc)
+  last-named (k ∷ []) n e all = let same : k ≡ n = cc in (subst (NamesEntry t) same all.0, ap (λ m. Some (set_named m t.numbers)) same)
+  last-named (k ∷ j ∷ js) n e all =
+      let one : length (k ∷ j ∷ js) - 1 ≡ suc (length (j ∷ js) - 1) = omega arith in
+      let rest = last-named (j ∷ js) n (e ∙ ap (slice_get (k ∷ j ∷ js)) one) all.1 in (
+        rest.0,
+        ap next_of (reverse-append (set_named k t.numbers ∷ []) (map (λ (m : ℕ). set_named m t.numbers) (j ∷ js))) ∙ next-still (sets_named t.numbers (j ∷ js)) (set_named n t.numbers) (set_named k t.numbers) rest.1,
+      )
+
+  -- there is a next set exactly if there is a number
+  pub entry-there : (ks : List ℕ) (n : ℕ) → n ≡ length ks → AllByRecursion (NamesEntry t) ks → not (n == 0) ≡ is_next_placed (sets_named t.numbers ks) t.table.entries
+  entry-there [] n e all = ap (λ m. not (m == 0)) e
+  entry-there (k ∷ ks) n e all = ap not (ne_eqb n 0 (λ q. omega (arith, e, q))) ∙ sym (next-named k ks all)
 
 -- ======== handles ========
 few-push : (x : AttributeSet) (es : List Entry) (e : Entry) (n : ℕ) → 0 < n → e.handles ≡ 0 → handles_in x es < n → handles_in x (es ++ e ∷ []) < n
@@ -218,10 +280,11 @@ handles-away x [] e = refl
 handles-away x (r ∷ rs) e = let q = or_parts (is_of x r) (has x rs) e in (λ i. cond (q.0 i) r.handles (handles_in x rs)) ∙ handles-away x rs q.1
 
 -- nor has the entry that is still to be made for what is prepared
-pub unheld : (t : Slotted) (few room : Bool) (p : Pending) (s : AttributeSet) → IsSound t few room p → ((n : ℕ) → p ≡ At n → ⊥) → t.table.none.set ≡ none_set → pending_in t.numbers p ≡ Some s → 0 ≡ handles_at s t.table
-unheld t few room Nothing s sound other is e = absurd (cc)
-unheld t few room (At n) s sound other is e = absurd (other n refl)
-unheld t few room (New set list) s sound other is e =
+pub unheld : (t : Slotted) (few room : Bool) (p : Pending) (s : AttributeSet) → IsSound t few room p → ((n : ℕ) → p ≡ At n → ⊥) → ((ks : Vec ℕ) → p ≡ Several ks → ⊥) → t.table.none.set ≡ none_set → next_of (pending_in t.numbers p) ≡ Some s → 0 ≡ handles_at s t.table
+unheld t few room Nothing s sound other one is e = absurd (cc)
+unheld t few room (At n) s sound other one is e = absurd (other n refl)
+unheld t few room (Several ns) s sound other one is e = absurd (one ns refl)
+unheld t few room (New set list) s sound other one is e =
     let same : set ≡ s = cc in
     subst (λ x. 0 ≡ handles_at x t.table) same
     (sym (ap (λ (k : AttributeSet). cond (set_eq k set) t.table.none.handles (handles_in set t.table.entries)) is

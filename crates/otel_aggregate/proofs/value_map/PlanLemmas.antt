@@ -17,7 +17,7 @@ use Rattle.otel_aggregate.specs.value_map.Keyed.{Slotted, IsNew, IsSpelling}
 use Rattle.otel_aggregate.specs.value_map.Numbers.{number_of, set_named, named_in, is_placed, AreNumbered, IsNumberOf}
 use Rattle.otel_aggregate.specs.value_map.Contents.{IsPlan, IsPlanPast, IsSound, IsReady, is_there, leads, list_of, used_by}
 use Rattle.otel_aggregate.specs.declared.value_map.pending.Pending.{Pending}
-use Rattle.otel_aggregate.specs.declared.value_map.pending.Pending.TheVariants.{Nothing, At, New}
+use Rattle.otel_aggregate.specs.declared.value_map.pending.Pending.TheVariants.{Nothing, At, New, Several}
 use Rattle.otel_aggregate.proofs.value_map.CanonicalSets.{canon-nil, canon-over, some-canon}
 use Rattle.otel_aggregate.proofs.value_map.KeyedLemmas.{same_set, same_number}
 
@@ -36,8 +36,9 @@ plan-empty t few l e =
     let bare : canon l ≡ [] = ap canon is ∙ canon-nil in
     let named : set_named t.numbers.none t.numbers ≡ none_set = ap (λ b. cond b none_set (named_in t.numbers.none t.numbers.sets)) (same_number t.numbers.none) in
     record {
-      pending = ap Some named ∙ ap (λ s. Some (used_by few s t.table.entries)) (sym bare);
+      pending = ap (λ s. s ∷ []) named ∙ ap (λ s. used_by few s t.table.entries ∷ []) (sym bare);
       spelling = sym (ap (λ s. cond ((not (set_eq s none_set) && (not (has s t.table.entries) && few)) && not (set_eq s l)) (l ∷ []) []) bare);
+      single = refl;
       away = λ e. absurd (true≢false (sym e));
       sound = λ room ready. (ap (λ s. number_of s t.numbers) named, ap (λ s. set_eq s none_set || has s t.table.entries) named);
     }
@@ -85,8 +86,9 @@ module _ (t : Slotted) (l : List KeyValue) (unled : leads l t ≡ false) (away :
   -- past the limit, with the overflow entry
   pub plan-over : (n : ℕ) → IsNumberOf over_set n t.numbers → has over_set t.table.entries ≡ true → IsPlan t false l (At n)
   plan-over n at there = record {
-    pending = ap Some (at.named ∙ sym (used-new false (canon l) t.table.entries bare away));
+    pending = ap (λ s. s ∷ []) (at.named ∙ sym (used-new false (canon l) t.table.entries bare away));
     spelling = sym (unadmitted t l);
+    single = refl;
     away = λ e. away;
     sound = λ room ready. (ap (λ s. number_of s t.numbers) at.named ∙ at.number, ap (λ s. is_placed s t.table.entries) at.named ∙ there);
   }
@@ -94,8 +96,9 @@ module _ (t : Slotted) (l : List KeyValue) (unled : leads l t ≡ false) (away :
   -- and where that is still to be made
   pub plan-over_new : (set : AttributeSet) → set ≡ over_set → lookup (set_eq over_set) t.numbers.sets ≡ None → has over_set t.table.entries ≡ false → IsPlan t false l (New set None)
   plan-over_new set is absent gone = record {
-    pending = ap Some (is ∙ sym (used-new false (canon l) t.table.entries bare away));
+    pending = ap (λ s. s ∷ []) (is ∙ sym (used-new false (canon l) t.table.entries bare away));
     spelling = sym (unadmitted t l);
+    single = refl;
     away = λ e. away;
     sound = λ room ready. subst (λ s. IsReady t false room s None) (sym is) (record { new = record { absent = absent; canonical = canon-over; some = refl }; absent = gone; spelling = tt; past = λ e. refl; ready = ready });
   }
@@ -118,8 +121,9 @@ module _ (t : Slotted) (l : List KeyValue) (unled : leads l t ≡ false) (away :
     -- below the limit
     pub plan-admitted : (set : AttributeSet) (o : Option (List KeyValue)) → set ≡ canon l → o ≡ cond (set_eq (canon l) l) None (Some l) → IsPlan t true l (New set o)
     plan-admitted set o is e = record {
-      pending = ap Some (is ∙ sym (used-new true (canon l) t.table.entries bare away));
+      pending = ap (λ s. s ∷ []) (is ∙ sym (used-new true (canon l) t.table.entries bare away));
       spelling = listed (set_eq (canon l) l) o e ∙ (λ i. cond ((not (sym bare i) && (not (sym away i) && true)) && not (set_eq (canon l) l)) (l ∷ []) []);
+      single = refl;
       away = λ e. away;
       sound = λ room ready. subst (λ s. IsReady t true room s o) (sym is) (record { new = new; absent = away; spelling = spelled (set_eq (canon l) l) refl o e; past = λ f. absurd (true≢false f); ready = ready });
     }
@@ -137,6 +141,7 @@ sound-same t n few room p table numbers aliases sound =
     anew : (p : Pending) → IsSound (record n { room = t.room }) few room p → IsSound n few room p
     anew Nothing s = tt
     anew (At k) s = s
+    anew (Several ks) s = s
     anew (New set list) s = record { new = s.new; absent = s.absent; spelling = s.spelling; past = s.past; ready = s.ready }
 
 -- a list that isn't known isn't empty

@@ -1,5 +1,6 @@
 -- What contracts see of a map.
-use Rattle.std.specs.Prelude.{◌≡◌, ◌&&◌, ◌||◌, not, nat_lt, ℕ, Bool, true, false, cond, List, [], ◌∷◌, Option, Some, None, IsTrue}
+use Rattle.std.specs.Prelude.{◌≡◌, ◌&&◌, ◌||◌, not, nat_lt, ℕ, Bool, true, false, cond, List, [], ◌∷◌, map, reverse, Option, Some, None, IsTrue}
+use Rattle.std.specs.List.{AllByRecursion}
 use Rattle.std.specs.Map.{keys_of}
 use Rattle.std.specs.Set.{is_member}
 use Rattle.otel_common.specs.Canonical.{canon}
@@ -11,26 +12,42 @@ use Rattle.otel_model_stream.specs.Maps.{MapState, KnownMap}
 use Rattle.otel_aggregate.specs.value_map.Keyed.{Slotted, IsNew, IsSpelling}
 use Rattle.otel_aggregate.specs.value_map.Numbers.{Numbers, number_of, set_named, is_placed}
 use Rattle.otel_aggregate.specs.declared.value_map.pending.Pending.{Pending}
-use Rattle.otel_aggregate.specs.declared.value_map.pending.Pending.TheVariants.{Nothing, At, New}
+use Rattle.otel_aggregate.specs.declared.value_map.pending.Pending.TheVariants.{Nothing, At, New, Several}
 
 -- a map's state; the numbers of its entries; the lists, as given, that it knows besides the sets of its entries; the
--- set of the entry that the prepared record or bind uses, if any; and the list that this adds to those, if any
+-- sets of the entries that the prepared records or the prepared bind use, the next one first; and the list that these add to
+-- those, if any
 pub record MapContents : Type 0 where
   pub state : MapState
   pub numbers : Numbers
   pub given : List (List KeyValue)
-  pub pending : Option AttributeSet
+  pub pending : List AttributeSet
   pub spelling : List (List KeyValue)
 
 -- a map with the lists that it knows
 abbrev pub known_of : MapContents → KnownMap
 known_of h = record { map_state = h.state; given = h.given }
 
--- the set of the entry that the prepared record or bind uses, if any
-abbrev pub pending_in : Numbers → Pending → Option AttributeSet
-pending_in ns Nothing = None
-pending_in ns (At n) = Some (set_named n ns)
-pending_in ns (New s list) = Some s
+-- the sets of the entries with these numbers, the last one first
+abbrev pub sets_named : Numbers → List ℕ → List AttributeSet
+sets_named ns numbers = reverse (map (λ (n : ℕ). set_named n ns) numbers)
+
+-- the sets of the entries that the prepared records or the prepared bind use, the next one first
+abbrev pub pending_in : Numbers → Pending → List AttributeSet
+pending_in ns Nothing = []
+pending_in ns (At n) = set_named n ns ∷ []
+pending_in ns (New s list) = s ∷ []
+pending_in ns (Several numbers) = sets_named ns numbers.items
+
+-- the next of these sets, if any
+abbrev pub next_of : List AttributeSet → Option AttributeSet
+next_of [] = None
+next_of (s ∷ later) = Some s
+
+-- whether the next of these sets is there and has its place
+abbrev pub is_next_placed : List AttributeSet → List Entry → Bool
+is_next_placed [] es = false
+is_next_placed (s ∷ later) es = is_placed s es
 
 -- the list, if there is one, as a list of lists
 abbrev pub list_of : Option (List KeyValue) → List (List KeyValue)
@@ -42,12 +59,21 @@ abbrev pub is_new : Pending → Bool
 is_new Nothing = false
 is_new (At n) = false
 is_new (New s list) = true
+is_new (Several numbers) = false
+
+-- whether several records may be prepared
+abbrev pub are_several : Pending → Bool
+are_several Nothing = false
+are_several (At n) = false
+are_several (New s list) = false
+are_several (Several numbers) = true
 
 -- the list that the prepared record or bind adds, if any
 abbrev pub spelling_in : Pending → List (List KeyValue)
 spelling_in Nothing = []
 spelling_in (At n) = []
 spelling_in (New s list) = list_of list
+spelling_in (Several numbers) = []
 
 -- a new set can be given an entry: there is room. The list, if there is one, can become a key too. If `few` says that the
 -- limit allows no more counted entries, it is the overflow set
@@ -58,11 +84,16 @@ pub record IsReady (t : Slotted) (few : Bool) (room : Bool) (s : AttributeSet) (
   pub past : few ≡ false → s ≡ over_set
   pub ready : IsTrue room
 
--- what is prepared can be carried out: the number names a set with an entry, or the new set can be given one
+-- the number names a set that has an entry
+abbrev pub NamesEntry : Slotted → ℕ → Type 0
+NamesEntry t n = (number_of (set_named n t.numbers) t.numbers ≡ Some n) × (is_placed (set_named n t.numbers) t.table.entries ≡ true)
+
+-- what is prepared can be carried out: the numbers name sets with entries, or the new set can be given one
 abbrev pub IsSound : Slotted → Bool → Bool → Pending → Type 0
 IsSound t few room Nothing = Unit {0}
-IsSound t few room (At n) = (number_of (set_named n t.numbers) t.numbers ≡ Some n) × (is_placed (set_named n t.numbers) t.table.entries ≡ true)
+IsSound t few room (At n) = NamesEntry t n
 IsSound t few room (New s list) = IsReady t few room s list
+IsSound t few room (Several numbers) = AllByRecursion (NamesEntry t) numbers.items
 
 -- whether a list, as given, leads to an entry
 abbrev pub leads : List KeyValue → Slotted → Bool
@@ -82,8 +113,9 @@ is_there_in s m = is_there (nat_lt (number_counted m.table.entries) m.limit) s m
 
 -- the plan is what a record or bind of the list is to do. `few` says whether the limit allows one more counted entry
 pub record IsPlan (t : Slotted) (few : Bool) (l : List KeyValue) (plan : Pending) : Type 0 where
-  pub pending : pending_in t.numbers plan ≡ Some (used_by few (canon l) t.table.entries)
+  pub pending : pending_in t.numbers plan ≡ used_by few (canon l) t.table.entries ∷ []
   pub spelling : spelling_in plan ≡ cond ((not (set_eq (canon l) none_set) && (not (has (canon l) t.table.entries) && few)) && not (set_eq (canon l) l)) (l ∷ []) []
+  pub single : are_several plan ≡ false
   pub away : IsTrue (is_new plan) → has (canon l) t.table.entries ≡ false
   pub sound : (room : Bool) → IsTrue room → IsSound t few room plan
 

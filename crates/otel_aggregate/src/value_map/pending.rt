@@ -1,13 +1,16 @@
 //! A prepared record or bind, and what is made for it in advance.
 
-ghost use Rattle.std.specs.Prelude.{◌≡◌, ◌&&◌, true, false, None, Some, IfSome, IfOk, IsOk, OnOk, IsOkUnless, IsTrue, is_some};
+ghost use Rattle.std.specs.Prelude.{◌≡◌, ◌&&◌, Bool, true, false, drop, None, Some, IfSome, IfOk, IsOk, OnOk, IsOkUnless, IsTrue, is_some};
+ghost use Rattle.std.specs.List.{AllByRecursion as EachOf};
 ghost use Rattle.std.specs.Option.{IfNone, option_copied};
 ghost use Rattle.otel_common.specs.Canonical.{canon};
 ghost use Rattle.otel_common.specs.Equality.{set_eq};
 ghost use Rattle.otel_model_stream.specs.Entries.{has};
 ghost use Rattle.otel_model_stream.specs.Sets.{allowed_part, over_set};
 ghost use Rattle.otel_aggregate.specs.value_map.Slots.{kept_of, new_kept};
-ghost use Rattle.otel_aggregate.specs.value_map.Contents.{IsPlan, IsPlanAt, IsPlanPast, is_there, leads};
+ghost use Rattle.otel_aggregate.specs.value_map.Contents.{IsPlan, IsPlanAt, IsPlanPast, IsSound, NamesEntry, is_new, is_next_placed, is_there, leads, next_of, pending_in, sets_named};
+ghost use Rattle.otel_aggregate.specs.value_map.Keyed.{Slotted};
+ghost use Rattle.otel_aggregate.specs.value_map.Numbers.{Numbers, set_named};
 ghost use Rattle.otel_aggregate.specs.declared.value_map.pending.Pending.TheVariants.{Nothing, At};
 
 use crate::aggregators::aggregator::Aggregator;
@@ -21,8 +24,9 @@ use crate::value_map::table::Table;
 use otel_common::attributes::KeyValue;
 use otel_common::faults::Fault;
 use std::alloc::Global;
+use std::mem::replace;
 
-/// A prepared record or bind, if there is one.
+/// What is prepared: nothing, a record or bind, or several records.
 #[derive(Drop)]
 pub enum Pending {
     /// Nothing is prepared.
@@ -32,6 +36,8 @@ pub enum Pending {
     /// A record or bind that uses an entry which is to be made for this set, and to which perhaps another list is to lead
     /// too.
     New(OwnedSet, Option<OwnedSet>),
+    /// Records that use the entries with these numbers, the last one first.
+    Several(Vec<usize>),
 }
 
 impl Pending {
@@ -51,6 +57,45 @@ impl Pending {
         ensures { self.new ≡ Nothing }
     {
         *self = Pending::Nothing;
+    }
+
+    /// Takes out the numbers of the entries that the prepared records use; there are none if an entry is still to be made or
+    /// if memory is refused. In either case nothing is prepared any more.
+    #[inline(always)]
+    pub fn take_numbers(&mut self, alloc: Global) -> Option<Vec<usize>>
+        ensures taken { self.new ≡ Nothing }
+        ensures numbers { (ns : Numbers) → IfSome result (λ numbers. sets_named ns numbers.items ≡ pending_in ns self.old) }
+        ensures sound { (t : Slotted) (few room : Bool) → IsSound t few room self.old → IfSome result (λ numbers. EachOf (NamesEntry t) numbers.items) }
+    {
+        match replace(self, Pending::Nothing) {
+            Pending::Nothing => Some(Vec::new(alloc)),
+            Pending::At(number) => {
+                let mut numbers = Vec::new(alloc);
+                numbers.push(number).ok()?;
+                Some(numbers)
+            }
+            Pending::New(_, _) => None,
+            Pending::Several(numbers) => Some(numbers),
+        }
+    }
+
+    /// Takes out the number of the entry that the next record uses, if that entry is there.
+    pub fn take_next(&mut self) -> Option<usize>
+        ensures there { (t : Slotted) (few room : Bool) → IsSound t few room self.old → IfSome result (λ n. NamesEntry t n × (next_of (pending_in t.numbers self.old) ≡ Some (set_named n t.numbers))) }
+        ensures some { (t : Slotted) (few room : Bool) → IsSound t few room self.old → is_next_placed (pending_in t.numbers self.old) t.table.entries ≡ true → is_some result ≡ true }
+        ensures later { (t : Slotted) (few room : Bool) → IsSound t few room self.old → IsSound t few room self.new }
+        ensures rest { (ns : Numbers) → is_some result ≡ true → pending_in ns self.new ≡ drop 1 (pending_in ns self.old) }
+        ensures made { is_some result ≡ true → is_new self.new ≡ false }
+    {
+        match self {
+            Pending::At(number) => {
+                let number = *number;
+                *self = Pending::Nothing;
+                Some(number)
+            }
+            Pending::Several(numbers) => numbers.pop(),
+            _ => None,
+        }
     }
 }
 

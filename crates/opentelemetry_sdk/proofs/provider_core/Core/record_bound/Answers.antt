@@ -54,7 +54,7 @@ sent c =
     let n : ℕ = c.in-Some.instrument in
     let h : ℕ = c.args.handle.number in
     let back = c.deref_mut.ensures.value in
-    c.change_all.ensures 0 (model.Call.RecordBound h (number_of c.args.value)) (held-stands n h c.args.handle.stream_place c.args.value c.deref_mut.result.now
+    c.change_all.ensures.parts 0 (model.Call.RecordBound h (number_of c.args.value)) (held-stands n h c.args.handle.stream_place c.args.value c.deref_mut.result.now
     (taken-feeds n (number_of c.args.value) c.self.inside.instruments.items _ c.deref.ensures.value c.in_default.ensures.taken c.self.inside.pipelines.items _ back c.self.invariant.typed)
     (subst (λ ps. EachOf (FeedsSynchronous n) (map part_of ps)) (sym back) (synchronous-held old.shared h n old.readers c.self.invariant.lawful.handles (held c) c.self.invariant.typed))
     (subst (λ ps. EachOf (IsHeldByFed n h) (map part_of ps)) (sym back) (held-fed old.shared h n old.readers c.self.invariant.lawful.handles (held c) c.self.invariant.lawful.parts)))

@@ -33,7 +33,7 @@ sent c =
     let old : State = state_in c.self.inside in
     let n : ℕ = c.in-Some.instrument in
     let back = c.deref_mut.ensures.value in
-    c.change_all.ensures 0 (model.Call.Unbind c.args.handle) (unbind-stands n c.args.handle c.deref_mut.result.now
+    c.change_all.ensures.parts 0 (model.Call.Unbind c.args.handle) (unbind-stands n c.args.handle c.deref_mut.result.now
     (subst (λ ps. EachOf (FeedsSynchronous n) (map part_of ps)) (sym back) (synchronous-held old.shared c.args.handle n old.readers c.self.invariant.lawful.handles (held c) c.self.invariant.typed))
     (subst (λ ps. EachOf (IsHeldByFed n c.args.handle) (map part_of ps)) (sym back) (held-fed old.shared c.args.handle n old.readers c.self.invariant.lawful.handles (held c) c.self.invariant.lawful.parts)))
     ∙ ap (λ ps. map (part_after_call 0 (model.Call.Unbind c.args.handle)) (map part_of ps)) back

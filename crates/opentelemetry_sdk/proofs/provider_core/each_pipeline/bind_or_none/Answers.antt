@@ -9,7 +9,7 @@ use Rattle.opentelemetry_sdk.proofs.provider_core.each_pipeline.bind_or_none.Goa
 pub returns-clause-ok : goal.returns-clause-ok
 returns-clause-ok c =
     let same = c.prepare_all.ensures.same in
-    c.change_all.ensures c.args.handle (model.Call.Bind c.args.instrument c.args.attributes.now)
+    c.change_all.ensures.parts c.args.handle (model.Call.Bind c.args.instrument c.args.attributes.now)
     (λ i d h. (
       c.args.attributes.now,
       refl,

@@ -15,5 +15,5 @@ empty (x ∷ xs) e = absurd (cc)
 pub returns-then-is_empty-clause-ok : goal.returns-then-is_empty-clause-ok
 returns-then-is_empty-clause-ok c =
     let none : c.args.attributes.now ≡ [] = sym c.as_slice.ensures ∙ empty c.as_slice.result.now (eqb-true (length c.as_slice.result.now) 0 (sym c.is_empty.ensures ∙ c.if-is_empty.true)) in
-    c.change_all.ensures 0 (model.Call.Record c.args.instrument (number_of c.args.value) []) (λ i d h. (refl, each-at (FeedsType c.args.instrument (is_signed_value c.args.value)) c.args.pipelines.now i d h c.requires))
+    c.change_all.ensures.parts 0 (model.Call.Record c.args.instrument (number_of c.args.value) []) (λ i d h. (refl, each-at (FeedsType c.args.instrument (is_signed_value c.args.value)) c.args.pipelines.now i d h c.requires))
     ∙ ap (λ (l : List KeyValue). map (part_after_call 0 (model.Call.Record c.args.instrument (number_of c.args.value) l)) (map part_of c.args.pipelines.now)) (sym none)

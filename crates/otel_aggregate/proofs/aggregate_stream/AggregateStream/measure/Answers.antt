@@ -1,4 +1,4 @@
-use Rattle.std.proofs.Common.{◌≡◌, ◌∙◌, refl, ap, sym, cond, Some, None}
+use Rattle.std.proofs.Common.{◌≡◌, ◌∙◌, ◌∷◌, [], refl, ap, sym, cond}
 use Rattle.otel_model_stream.specs.Folds.{sample_of}
 use Rattle.otel_model_stream.specs.Maps.{bound_to}
 use Rattle.otel_model_stream.specs.Sets.{AttributeSet, set_of}
@@ -48,11 +48,11 @@ returns-then-is_some-clause-taken c =
     let v = amount_of c.args.value in
     let ready = c.in_ok-prepare.ensures in
     let set : AttributeSet = set_of a.state.allow c.args.attributes.now in
-    let used : AggregateContents = record a { pending = Some (bound_to set a.state.map_state) } in
+    let used : AggregateContents = record a { pending = bound_to set a.state.map_state ∷ [] } in
     let is : c.prepare.new.self ≡ used = λ i. record { is_signed = ready.number i; state = ready.same i; live = ready.live i; pending = ready.ready i; room = ready.room i; drains = ready.drains i; reported = ready.reported i } in
     let told = sym c.takes.ensures.told ∙ c.if-not-takes.false in
     if-typed a told
     (c.commit.ensures.taken
     ∙ ap (any_after_commit c.args.value) is
     ∙ ap (λ t. cond t (stream_after_commit v used) used) told
-    ∙ λ i. record a { state = recorded_in (used-measured a.state.map_state set (sample_of a.state.aggregate v) i) v a.state; pending = None })
+    ∙ λ i. record a { state = recorded_in (used-measured a.state.map_state set (sample_of a.state.aggregate v) i) v a.state; pending = [] })

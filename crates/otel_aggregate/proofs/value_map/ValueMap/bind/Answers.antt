@@ -1,9 +1,9 @@
-use Rattle.std.proofs.Common.{◌∙◌, ◌++◌, Some, ap, sym, subst}
+use Rattle.std.proofs.Common.{◌∙◌, ◌++◌, ◌∷◌, [], ap, sym, subst}
 use Rattle.otel_common.specs.Canonical.{canon}
 use Rattle.otel_model_stream.specs.Maps.{bound_map, bound_to}
 use Rattle.otel_model_stream.specs.Laws.{AreKnown}
 use Rattle.otel_model_stream.proofs.KnownLists.{known_bound}
-use Rattle.otel_aggregate.specs.value_map.Contents.{known_of}
+use Rattle.otel_aggregate.specs.value_map.Contents.{known_of, next_of}
 use Rattle.otel_aggregate.specs.value_map.Numbers.{spelling_of}
 use Rattle.otel_aggregate.proofs.value_map.PlaceLemmas.{used-held}
 use Rattle.otel_aggregate.proofs.value_map.ValueMap.bind.Goals as goal
@@ -13,7 +13,7 @@ returns-clause-ok g c =
     let l = c.args.attributes.now in
     let was = c.args.self.now.state in
     let ready = c.in_ok-prepare.ensures in
-    let state = c.commit_bind.ensures.bound (bound_to (canon l) was) (ready.ready ∙ ap (λ x. Some (bound_to (canon x) was)) c.new.ensures) ∙ ap (bound_map (bound_to (canon l) was)) ready.same ∙ used-held was (canon l) in
+    let state = c.commit_bind.ensures.bound (bound_to (canon l) was) (ap next_of (ready.ready ∙ ap (λ x. bound_to (canon x) was ∷ []) c.new.ensures)) ∙ ap (bound_map (bound_to (canon l) was)) ready.same ∙ used-held was (canon l) in
     let given = c.commit_bind.ensures.given ∙ (λ i. ready.given i ++ (ready.spelling ∙ ap (λ x. spelling_of x was) c.new.ensures) i) in
     λ i. record { map_state = state i; given = given i }
 

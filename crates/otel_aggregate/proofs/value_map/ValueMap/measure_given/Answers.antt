@@ -1,11 +1,11 @@
-use Rattle.std.proofs.Common.{◌≡◌, ◌∙◌, ◌++◌, List, Some, ap, sym, subst}
+use Rattle.std.proofs.Common.{◌≡◌, ◌∙◌, ◌++◌, ◌∷◌, [], List, ap, sym, subst}
 use Rattle.otel_common.specs.Canonical.{canon}
 use Rattle.otel_common.specs.declared.attributes.KeyValue.{KeyValue}
 use Rattle.otel_model_stream.specs.Laws.{AreKnown}
 use Rattle.otel_model_stream.specs.Maps.{MapState, measured_map, bound_to}
 use Rattle.otel_model_stream.specs.Sets.{AttributeSet}
 use Rattle.otel_model_stream.proofs.KnownLists.{known_measured}
-use Rattle.otel_aggregate.specs.value_map.Contents.{IsPlanAt, known_of}
+use Rattle.otel_aggregate.specs.value_map.Contents.{IsPlanAt, known_of, next_of}
 use Rattle.otel_aggregate.specs.value_map.Numbers.{spelling_of}
 use Rattle.otel_aggregate.proofs.value_map.PlaceLemmas.{measured-at, used-measured}
 use Rattle.otel_aggregate.proofs.value_map.ValueMap.measure_given.Goals as goal
@@ -17,7 +17,7 @@ returns-clause-ok g c =
     let v = g.A.Aggregator.sample c.args.value in
     let used : AttributeSet = bound_to (canon l) h.state in
     let state : c.commit.new.self.state ≡ measured_map (canon l) v h.state =
-    c.commit.ensures.measured used (c.in_ok-prepare_unknown.ensures.ready ∙ ap (λ (x : List KeyValue). Some (bound_to (canon x) h.state)) c.list-list.ensures)
+    c.commit.ensures.measured used (ap next_of (c.in_ok-prepare_unknown.ensures.ready ∙ ap (λ (x : List KeyValue). bound_to (canon x) h.state ∷ []) c.list-list.ensures))
     ∙ ap (λ (m : MapState). measured_map used v m) c.prepare_unknown.ensures.same
     ∙ used-measured h.state (canon l) v in
     let given : c.commit.new.self.given ≡ h.given ++ spelling_of l h.state =

@@ -5,7 +5,7 @@ use Rattle.otel_model_stream.specs.Folds.{Fold}
 use Rattle.otel_model_stream.specs.Sets.{AttributeSet, over_set}
 use Rattle.otel_model_stream.specs.Entries.{Entry, new_entry, has, number_counted}
 use Rattle.otel_model_stream.specs.Maps.{with_place}
-use Rattle.otel_aggregate.specs.value_map.Contents.{MapContents, IsReady}
+use Rattle.otel_aggregate.specs.value_map.Contents.{MapContents, IsReady, next_of}
 use Rattle.otel_aggregate.proofs.value_map.PlaceLemmas.{Placing, Placed, placed, place-admitted, place-over_made, new-prepared, new-set}
 use Rattle.otel_aggregate.proofs.value_map.ValueMap.place_new.Goals as goal
 
@@ -19,7 +19,7 @@ returns-then-self g c =
     let few : nat_lt (number_counted t.table.entries) limit ≡ true = rw (← c.self.invariant.0) (lt-ltb _ _ c.if-self.true) in
     let one : Placed limit empty t c.add.new.self c.add.result set =
     placed limit empty t c.add.new.self c.add.result set set true _ _ (place-admitted limit empty set t.table.entries ready.new.some ready.absent few) ready.new c.take_slot-slot.ensures.slot c.add.ensures.table c.add.ensures.none c.add.ensures.sets in
-    let of = λ (s : AttributeSet) (e : c.args.self.now.pending ≡ Some s). subst (Placed limit empty t c.add.new.self c.add.result) (new-set t.numbers c.self.inside.pending set s c.in-New.list c.in-New.ensures.value (ap (λ (h : MapContents). h.pending) c.self.view_is ∙ e)) one in
+    let of = λ (s : AttributeSet) (e : next_of c.args.self.now.pending ≡ Some s). subst (Placed limit empty t c.add.new.self c.add.result) (new-set t.numbers c.self.inside.pending set s c.in-New.list c.in-New.ensures.value (ap (λ (h : MapContents). next_of h.pending) c.self.view_is ∙ e)) one in
     record {
       state = λ s e. (of s e).state ∙ ap (λ (h : MapContents). with_place s h.state) c.self.view_is;
       number = λ s e. (of s e).number;
@@ -43,7 +43,7 @@ returns g c =
     let place = subst (λ (x : AttributeSet). Placing limit empty x entries (entries ++ new_entry empty x false ∷ []) x) (sym is) (place-over_made limit empty over_set entries refl gone full gone) in
     let one : Placed limit empty t c.add-2.new.self c.add-2.result set =
     placed limit empty t c.add-2.new.self c.add-2.result set set false _ _ place ready.new c.take_slot-slot-2.ensures.slot c.add-2.ensures.table c.add-2.ensures.none c.add-2.ensures.sets in
-    let of = λ (s : AttributeSet) (e : c.args.self.now.pending ≡ Some s). subst (Placed limit empty t c.add-2.new.self c.add-2.result) (new-set t.numbers c.self.inside.pending set s c.in-New.list c.in-New.ensures.value (ap (λ (h : MapContents). h.pending) c.self.view_is ∙ e)) one in
+    let of = λ (s : AttributeSet) (e : next_of c.args.self.now.pending ≡ Some s). subst (Placed limit empty t c.add-2.new.self c.add-2.result) (new-set t.numbers c.self.inside.pending set s c.in-New.list c.in-New.ensures.value (ap (λ (h : MapContents). next_of h.pending) c.self.view_is ∙ e)) one in
     record {
       state = λ s e. (of s e).state ∙ ap (λ (h : MapContents). with_place s h.state) c.self.view_is;
       number = λ s e. (of s e).number;

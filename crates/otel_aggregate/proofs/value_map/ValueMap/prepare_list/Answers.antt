@@ -1,4 +1,4 @@
-use Rattle.std.proofs.Common.{◌∙◌, ap, nat_lt, Some, true, refl}
+use Rattle.std.proofs.Common.{◌∙◌, ap, nat_lt, ◌∷◌, [], true, refl}
 use Rattle.otel_common.specs.Canonical.{canon}
 use Rattle.otel_model_stream.specs.Entries.{number_counted}
 use Rattle.otel_model_stream.specs.Maps.{bound_to}
@@ -14,5 +14,5 @@ returns-in-Some-clause-ready g c =
     let t = c.self.inside.table.table in
     let s = canon c.args.list.now.key in
     (c.in-Some.ensures.plan (nat_lt (number_counted t.entries) c.self.inside.limit)).pending
-    ∙ ap Some (used-bound (record { limit = c.self.inside.limit; empty = g.A.Aggregator.empty c.self.inside.config; table = t }) s)
-    ∙ ap (λ (h : MapContents). Some (bound_to s h.state)) c.self.view_is
+    ∙ ap (λ k. k ∷ []) (used-bound (record { limit = c.self.inside.limit; empty = g.A.Aggregator.empty c.self.inside.config; table = t }) s)
+    ∙ ap (λ (h : MapContents). bound_to s h.state ∷ []) c.self.view_is

@@ -9,7 +9,7 @@ use Rattle.otel_aggregate.specs.value_map.Keyed.{Slotted}
 use Rattle.otel_aggregate.specs.value_map.Numbers.{Numbers, spelling_of}
 use Rattle.otel_aggregate.specs.value_map.Contents.{MapContents, IsPlan, IsReady, is_there, known_of, pending_in, used_by}
 use Rattle.otel_aggregate.specs.declared.value_map.pending.Pending.{Pending}
-use Rattle.otel_aggregate.specs.declared.value_map.pending.Pending.TheVariants.{Nothing, At, New}
+use Rattle.otel_aggregate.specs.declared.value_map.pending.Pending.TheVariants.{Nothing, At, New, Several}
 use Rattle.otel_aggregate.proofs.value_map.CanonicalSets.{some-canon}
 use Rattle.otel_aggregate.proofs.value_map.PlaceLemmas.{used-bound}
 use Rattle.otel_aggregate.proofs.value_map.PlanLemmas.{sound-same, unknown-some}
@@ -19,6 +19,7 @@ use Rattle.otel_aggregate.proofs.value_map.ValueMap.prepare_unknown.Goals as goa
 new-away : (t : Slotted) (few : Bool) (l : List KeyValue) (plan : Pending) → set_eq l none_set ≡ false → IsPlan t few l plan → ((n : ℕ) → plan ≡ At n → ⊥) → is_there few (canon l) t.table.entries ≡ false
 new-away t few l Nothing some p other = let e = p.pending in absurd (cc)
 new-away t few l (At n) some p other = absurd (other n refl)
+new-away t few l (Several ns) some p other = absurd (true≢false p.single)
 new-away t few l (New set list) some p other = by few refl
   where
     bare : set_eq (canon l) none_set ≡ false
@@ -52,8 +53,8 @@ returns-in-At-clause-ready g c =
     let few : Bool = nat_lt c.self.inside.count c.self.inside.limit in
     let now : MapState = record { limit = c.self.inside.limit; empty = g.A.Aggregator.empty c.self.inside.config; table = c.self.inside.table.table } in
     c.in_ok-plan.ensures.plan.pending
-    ∙ ap Some (ready-by now few s (ap (λ k. nat_lt k c.self.inside.limit) c.self.invariant.0))
-    ∙ ap (λ (h : MapContents). Some (bound_to s h.state)) c.self.view_is
+    ∙ ap (λ k. k ∷ []) (ready-by now few s (ap (λ k. nat_lt k c.self.inside.limit) c.self.invariant.0))
+    ∙ ap (λ (h : MapContents). bound_to s h.state ∷ []) c.self.view_is
 
 pub returns-clause-ready : goal.returns-clause-ready
 returns-clause-ready g c =
@@ -62,8 +63,8 @@ returns-clause-ready g c =
     let now : MapState = record { limit = c.self.inside.limit; empty = g.A.Aggregator.empty c.self.inside.config; table = c.self.inside.table.table } in
     ap (λ (ns : Numbers). pending_in ns c.in_ok-plan.plan) c.make_ready.ensures.numbers
     ∙ c.in_ok-plan.ensures.plan.pending
-    ∙ ap Some (ready-by now few s (ap (λ k. nat_lt k c.self.inside.limit) c.self.invariant.0))
-    ∙ ap (λ (h : MapContents). Some (bound_to s h.state)) c.self.view_is
+    ∙ ap (λ k. k ∷ []) (ready-by now few s (ap (λ k. nat_lt k c.self.inside.limit) c.self.invariant.0))
+    ∙ ap (λ (h : MapContents). bound_to s h.state ∷ []) c.self.view_is
 
 pub returns-clause-spelling : goal.returns-clause-spelling
 returns-clause-spelling g c =
