@@ -1,5 +1,5 @@
 -- Words of which no option can be read.
-use Rattle.std.proofs.Common.{◌≡◌, ◌≢◌, ◌<◌, ◌≤◌, ◌+◌, ℕ, zero, suc, Bool, true, false, cond, List, [], ◌∷◌, map, length, take, get_or, Option, Some, None, Result, Ok, Err, sym, subst, refl, arith}
+use Rattle.std.proofs.Common.{◌≡◌, ◌≢◌, ◌<◌, ◌≤◌, ◌+◌, ℕ, zero, suc, Bool, true, false, cond, List, [], ◌∷◌, map, length, take, get_or, Option, Some, None, Result, Ok, Err, subst, refl, arith}
 use Rattle.std.proofs.lemmas.Bool.Decides.{nat_tests}
 use Rattle.std.specs.Prelude.{◌&&◌, filter, IsTrue, IfErr, OkIff, OnErr}
 use Rattle.std.specs.List.{AllZip, list_all, list_any, after_first, position_or_len}
@@ -17,11 +17,6 @@ two_values R [] option two all = absurd (omega (arith, two))
 two_values R (v ∷ []) option two all = absurd (omega (arith, two))
 two_values R (v ∷ w ∷ vs) None two all = all
 two_values R (v ∷ w ∷ vs) (Some x) two all = all.1
-
--- nor of one that stands for nothing
-pub bad_value : {X : Type 0} (R : List ℕ → X → Type 0) (values : List (List ℕ)) (value : List ℕ) (option : Option X) → value ∷ [] ≡ values → ((x : X) → ¬ R value x) → ¬ AllZip R values (option_to_list option)
-bad_value R values value None is none all = subst (λ vs. AllZip R vs []) (sym is) all
-bad_value R values value (Some x) is none all = let pair = subst (λ vs. AllZip R vs (x ∷ [])) (sym is) all in none x pair.0
 
 -- one more value
 one_more : (named : Bool) (word : List ℕ) (xs ys : List (List ℕ)) → length (map (after_first is_equals_sign) xs) + 1 ≤ length (map (after_first is_equals_sign) ys) → length (map (after_first is_equals_sign) (cond named (word ∷ xs) xs)) + 1 ≤ length (map (after_first is_equals_sign) (cond named (word ∷ ys) ys))

@@ -1,6 +1,7 @@
 -- Collections that the provider makes are the model's.
-use Rattle.std.proofs.Common.{◌≡◌, ◌<◌, ℕ, zero, suc, Bool, false, cond, List, [], ◌∷◌, map, length, set, slice_get, slice_index_or, Option, Some, None, refl, sym, ◌∙◌, ap, Result, Ok, Err, OnOk, OnErr, IfOk, IsOkUnless, lt-ltb}
-use Rattle.std.proofs.lemmas.Option.{get_or_from_slice_get, slice_get_read, slice_get_within}
+use Rattle.std.proofs.Common.{◌≡◌, ◌<◌, ℕ, Bool, false, cond, List, map, length, set, slice_get, Option, Some, None, refl, sym, ◌∙◌, ap, Result, Ok, Err, OnOk, OnErr, IfOk, IsOkUnless, lt-ltb}
+use Rattle.std.proofs.lemmas.List.{map-set}
+use Rattle.std.proofs.lemmas.Option.{get_or_from_slice_get, slice_get_within}
 use Rattle.otel_common.specs.declared.faults.Fault.{Fault}
 use Rattle.otel_common.specs.declared.faults.Fault.TheVariants as fault
 use Rattle.otel_data.specs.declared.collections.ResourceMetrics.{ResourceMetrics}
@@ -10,26 +11,19 @@ use Rattle.otel_model.specs.Machine.{changed_at, part_after_call, accepted_after
 use Rattle.otel_model.specs.Refusals.{refusal, observations_refusal}
 use Rattle.otel_model.specs.State.{ReaderPart, State}
 use Rattle.otel_model.specs.Steps.{Step, collect_reply, reply_by, after_by}
+use Rattle.otel_model.proofs.Single.{get_map}
 use Rattle.opentelemetry_sdk.specs.pipeline.Collections.{IsCollectedFrom}
 use Rattle.opentelemetry_sdk.specs.pipeline.Pipelines.{Piped, part_of}
 use Rattle.opentelemetry_sdk.specs.Correspondence.{reply_from}
-use Rattle.opentelemetry_sdk.proofs.pipeline.Writes.{seen_same}
+use Rattle.opentelemetry_sdk.proofs.pipeline.Writes.{set-changed}
 use Rattle.opentelemetry_sdk.proofs.Stepped.{memory-step}
 
 -- ======== one reader of several ========
-pub get-at : (ps : List Piped) (r : ℕ) (p : Piped) → r < length ps → p ≡ slice_index_or ps r p → slice_get ps r ≡ Some p
-get-at ps r p h e = slice_get_read ps (length ps) r p refl h e
-
 -- a reader is changed, as the model sees it
 pub set-seen : (f : ReaderPart → ReaderPart) (ps : List Piped) (r : ℕ) (p new : Piped) → slice_get ps r ≡ Some p → part_of new ≡ f (part_of p) → map part_of (set ps r new) ≡ changed_at r f (map part_of ps)
-set-seen f [] r p new at e = absurd (cc)
-set-seen f (q ∷ ps) zero p new at e =
-    let same : q ≡ p = cc in
-    ap (λ x. x ∷ map part_of ps) (e ∙ ap (λ (x : Piped). f (part_of x)) (sym same))
-set-seen f (q ∷ ps) (suc r) p new at e = ap (λ xs. part_of q ∷ xs) (set-seen f ps r p new at e)
-
-pub set-unseen : (ps : List Piped) (r : ℕ) (p new : Piped) → slice_get ps r ≡ Some p → part_of new ≡ part_of p → map part_of (set ps r new) ≡ map part_of ps
-set-unseen ps r p new at e = seen_same part_of ps r p p new (sym (get_or_from_slice_get ps r p p at)) e
+set-seen f ps r p new at e =
+    let there : slice_get (map part_of ps) r ≡ Some (part_of p) = get_map part_of ps r p at in
+    map-set part_of ps r new ∙ set-changed f (map part_of ps) r (part_of p) (part_of new) (slice_get_within (map part_of ps) r (part_of p) there) (sym (get_or_from_slice_get (map part_of ps) r (part_of p) (part_of p) there)) e
 
 -- ======== whole calls ========
 -- why a collection is refused: the reader isn't there, the provider was shut down, or an observation is bad

@@ -1,6 +1,7 @@
 -- A record is never refused with `LedgerFull`, so only the book is.
-use Rattle.std.proofs.Common.{◌≡◌, ⊎_elim, ℕ, Bool, true, false, List, [], ◌∷◌, Option, Some, None, subst, cond, slice_get}
+use Rattle.std.proofs.Common.{◌≡◌, ⊎_elim, ℕ, Bool, List, [], ◌∷◌, Option, Some, None, subst, slice_get}
 use Rattle.std.specs.Bool.{beq}
+use Rattle.std.proofs.lemmas.Bool.{cond_both}
 use Rattle.otel_common.specs.declared.faults.Fault.{Fault}
 use Rattle.otel_common.specs.declared.faults.Fault.TheVariants.{LedgerFull}
 use Rattle.otel_model.specs.Calls as model
@@ -17,16 +18,12 @@ use Rattle.opentelemetry_sdk.specs.declared.metrics.shared.pending.PendingRecord
 abbrev IsOther : Option model.Fault → Type 0
 IsOther o = o ≡ Some model.Fault.LedgerFull → ⊥
 
-either_other : (b : Bool) (o p : Option model.Fault) → IsOther o → IsOther p → IsOther (cond b o p)
-either_other true o p f g = f
-either_other false o p f g = g
-
 number_other : (signed given : Bool) → IsOther (number_refusal signed given)
-number_other signed given = either_other (beq signed given) None (Some model.Fault.WrongNumber) (λ e. absurd (cc)) (λ e. absurd (cc))
+number_other signed given = cond_both (beq signed given) None (Some model.Fault.WrongNumber) IsOther (λ _ e. absurd (cc)) (λ _ e. absurd (cc))
 
 record_other : (o : Option InstrumentState) (given : Bool) → IsOther (record_refusal o given)
 record_other None given e = absurd (cc)
-record_other (Some i) given e = either_other (is_observable i.kind) (Some model.Fault.WrongKind) (number_refusal i.signed given) (λ e. absurd (cc)) (number_other i.signed given) e
+record_other (Some i) given e = cond_both (is_observable i.kind) (Some model.Fault.WrongKind) (number_refusal i.signed given) IsOther (λ _ e. absurd (cc)) (λ _. number_other i.signed given) e
 
 held_other : (o : Option InstrumentState) (given : Bool) → IsOther (held_refusal o given)
 held_other None given e = absurd (cc)

@@ -1,6 +1,7 @@
 -- Handles at all readers, and the calls on them as the machine makes them.
-use Rattle.std.proofs.Common.{◌≡◌, ℕ, ◌+◌, ◌<◌, ◌≤◌, ◌==◌, false, cond, List, [], ◌∷◌, ◌++◌, map, length, get_or, Option, Some, None, slice_get, nat_eq, refl, sym, ◌∙◌, ap, arith, zero, suc, ne_eqb, All}
+use Rattle.std.proofs.Common.{◌≡◌, ℕ, ◌+◌, ◌<◌, ◌==◌, false, cond, List, [], ◌∷◌, ◌++◌, map, length, get_or, Option, Some, None, slice_get, nat_eq, refl, sym, ◌∙◌, ap, arith, ne_eqb, All}
 use Rattle.std.proofs.lemmas.Bool.Decides.{nat_tests}
+use Rattle.std.proofs.lemmas.Option.{slice_get-get_or}
 use Rattle.std.specs.List.{AllByRecursion as EachOf}
 use Rattle.std.specs.Map.{lookup, remove_entry}
 use Rattle.otel_common.specs.declared.attributes.KeyValue.{KeyValue}
@@ -13,6 +14,8 @@ use Rattle.otel_model.specs.Refusals.{bind_refusal, instrument_held, held_refusa
 use Rattle.otel_model.specs.State.{InstrumentState, LiveHandle, Shared, ReaderPart, State}
 use Rattle.otel_model.specs.Steps.{Step, reply_by, after_by}
 use Rattle.otel_model.specs.Lawful.{HandlesAreSound, PartIsLawful, TakesRecords}
+use Rattle.otel_model.proofs.Amounts.{each_at, each_weaker}
+use Rattle.otel_model.proofs.Single.{get_map}
 use Rattle.otel_model.proofs.Handles.{unfed-unheld, later-unheld}
 use Rattle.otel_data.specs.declared.numbers.NumberValue.{NumberValue}
 use Rattle.otel_aggregate.specs.Any.{is_signed_value}
@@ -20,14 +23,12 @@ use Rattle.otel_aggregate.proofs.All.{all-found}
 use Rattle.opentelemetry_sdk.specs.declared.pipeline.change.Change.TheVariants as change
 use Rattle.opentelemetry_sdk.specs.pipeline.Handles.{FeedsSynchronous, IsNewAt, IsHeldByFed, StandsFor}
 use Rattle.opentelemetry_sdk.specs.pipeline.Pipelines.{FeedsType, Piped, number_of, part_of}
-use Rattle.opentelemetry_sdk.specs.States.{AreTyped}
+use Rattle.opentelemetry_sdk.specs.States.{AreTyped, IsTyped}
 
 -- ======== all readers ========
 -- what holds at each reader holds at one
 pub each-at : (P : ReaderPart → Type 0) (ps : List Piped) (i : ℕ) (d : Piped) → i < length ps → EachOf P (map part_of ps) → P (part_of (get_or ps i d))
-each-at P [] i d h all = absurd (omega arith)
-each-at P (p ∷ ps) zero d h all = all.0
-each-at P (p ∷ ps) (suc i) d h all = each-at P ps i d (omega arith) all.1
+each-at P ps i d h all = each_at P (map part_of ps) i (part_of (get_or ps i d)) all (get_map part_of ps i (get_or ps i d) (slice_get-get_or ps i d h))
 
 -- a record through a handle is the call at each reader
 pub held-stands : (n h place : ℕ) (value : NumberValue) (ps : List Piped) → EachOf (FeedsType n (is_signed_value value)) (map part_of ps) → EachOf (FeedsSynchronous n) (map part_of ps) → EachOf (IsHeldByFed n h) (map part_of ps)
@@ -39,24 +40,13 @@ pub unbind-stands : (n h : ℕ) (ps : List Piped) → EachOf (FeedsSynchronous n
 unbind-stands n h ps sync held i d l = (refl, each-at (FeedsSynchronous n) ps i d l sync, each-at (IsHeldByFed n h) ps i d l held)
 
 -- ======== what is known of handles ========
--- an instrument that takes in records feeds no observable stream
-pub feeds-synchronous : (n : ℕ) (is : List InstrumentState) (i : InstrumentState) (ps : List ReaderPart) → slice_get is n ≡ Some i → is_observable i.kind ≡ false → AreTyped is ps → EachOf (FeedsSynchronous n) ps
-feeds-synchronous n is i [] at sync all = tt
-feeds-synchronous n is i (p ∷ ps) at sync all = (λ x fed. ap is_observable (all.0.kinds n x i fed at) ∙ sync, feeds-synchronous n is i ps at sync all.1)
-
--- no stream has a handle of a number that is none of the handles so far
-pub later-new : (s : Shared) (ps : List ReaderPart) (h : ℕ) → s.next ≤ h → HandlesAreSound s → EachOf (PartIsLawful s.live s.instruments) ps → EachOf (IsNewAt h) ps
-later-new s [] h later sound all = tt
-later-new s (p ∷ ps) h later sound all = (later-unheld s p h later sound all.0, later-new s ps h later sound all.1)
-
--- in particular the next handle
+-- no stream has the next handle
 pub next-new : (s : Shared) (ps : List ReaderPart) → HandlesAreSound s → EachOf (PartIsLawful s.live s.instruments) ps → EachOf (IsNewAt s.next) ps
-next-new s ps sound all = later-new s ps s.next (omega arith) sound all
+next-new s ps sound all = each_weaker (PartIsLawful s.live s.instruments) (IsNewAt s.next) ps (λ p is. later-unheld s p s.next (omega arith) sound is) all
 
 -- a stream that the handle's instrument does not feed doesn't have it
 pub held-fed : (s : Shared) (h n : ℕ) (ps : List ReaderPart) → HandlesAreSound s → instrument_held h s.live ≡ Some n → EachOf (PartIsLawful s.live s.instruments) ps → EachOf (IsHeldByFed n h) ps
-held-fed s h n [] sound at all = tt
-held-fed s h n (p ∷ ps) sound at all = (unfed-unheld s p h n sound all.0 at, held-fed s h n ps sound at all.1)
+held-fed s h n ps sound at all = each_weaker (PartIsLawful s.live s.instruments) (IsHeldByFed n h) ps (λ p is. unfed-unheld s p h n sound is at) all
 
 -- the handle of a number, as a map of handles has it
 test-is : (h k : ℕ) → (k == h) ≡ nat_eq h k
@@ -66,13 +56,11 @@ pub held-lookup : (h : ℕ) (live : List LiveHandle) → instrument_held h live 
 held-lookup h [] = refl
 held-lookup h (p ∷ ps) = λ i. cond (test-is h p.0 i) (Some p.1) (held-lookup h ps i)
 
--- the instrument of a live handle takes in records
-held-takes : (is : List InstrumentState) (h n : ℕ) (live : List LiveHandle) → instrument_held h live ≡ Some n → EachOf (λ (p : LiveHandle). TakesRecords is p.1) live → TakesRecords is n
-held-takes is h n live e all = (all-found (λ (p : LiveHandle). TakesRecords is p.1) (nat_eq h) live n (sym (held-lookup h live) ∙ e) all).2
-
--- so it feeds no observable stream
+-- the instrument of a live handle takes in records, so it feeds no observable stream
 pub synchronous-held : (s : Shared) (h n : ℕ) (ps : List ReaderPart) → HandlesAreSound s → instrument_held h s.live ≡ Some n → AreTyped s.instruments ps → EachOf (FeedsSynchronous n) ps
-synchronous-held s h n ps sound at all = let t = held-takes s.instruments h n s.live at sound.synchronous in feeds-synchronous n s.instruments t.0 ps t.1 t.2 all
+synchronous-held s h n ps sound at all =
+    let takes = (all-found (λ (p : LiveHandle). TakesRecords s.instruments p.1) (nat_eq h) s.live n (sym (held-lookup h s.live) ∙ at) sound.synchronous).2 in
+    each_weaker (IsTyped s.instruments) (FeedsSynchronous n) ps (λ p typed x fed. ap is_observable (typed.kinds n x takes.0 fed takes.1) ∙ takes.2) all
 
 -- the instrument of a handle that the map has, or of one that it doesn't have
 pub held-as : (h : ℕ) (live : List LiveHandle) (o : Option ℕ) → o ≡ lookup (nat_eq h) live → instrument_held h live ≡ o

@@ -1,6 +1,6 @@
 -- Records of series that are prepared at all readers: the next one is taken in, and the others stay prepared.
-use Rattle.std.proofs.Common.{◌≡◌, ◌∙◌, ℕ, Bool, true, false, cond, List, [], ◌∷◌, drop, map, refl, subst}
-use Rattle.std.proofs.lemmas.Bool.{and_parts}
+use Rattle.std.proofs.Common.{◌≡◌, ◌∙◌, ℕ, true, List, [], ◌∷◌, drop, map, refl, subst}
+use Rattle.std.proofs.lemmas.Bool.{and_parts, cond_both}
 use Rattle.std.specs.List.{AllByRecursion as EachOf, list_all}
 use Rattle.otel_data.specs.declared.numbers.NumberValue.{NumberValue}
 use Rattle.otel_aggregate.specs.Any.{is_signed_value}
@@ -20,11 +20,7 @@ use Rattle.opentelemetry_sdk.specs.declared.metrics.shared.series.Series.{Series
 use Rattle.opentelemetry_sdk.proofs.Grouping.{group-made, group-typed, groups-kept, instrument_after_each}
 use Rattle.opentelemetry_sdk.proofs.pipeline.PipelineLemmas.{settled-part}
 use Rattle.opentelemetry_sdk.proofs.pipeline.Writes.{unseen-each}
-use Rattle.opentelemetry_sdk.proofs.pipeline.Prepared.{lawful-before, next-recorded, part-recorded, recorded_by}
-
--- the reader knows the series of this group
-abbrev Knows : List Series → Piped → ℕ × List NumberValue → Type 0
-Knows ss p h = is_known_at (series_at ss h.0).instrument (series_at ss h.0).attributes (part_of p) ≡ true
+use Rattle.opentelemetry_sdk.proofs.pipeline.Prepared.{Knows, lawful-before, next-recorded, part-recorded, recorded_by}
 
 module _ (ss : List Series) where
   -- a reader is lawful if it is so with records prepared
@@ -32,21 +28,17 @@ module _ (ss : List Series) where
   lawful-each gs [] all = tt
   lawful-each gs (p ∷ ps) all = (lawful-before ss gs p all.0, lawful-each gs ps all.1)
 
-  -- one series more that all readers know
-  both-each : (h : ℕ × List NumberValue) (gs : List (ℕ × List NumberValue)) (ps : List Piped) → list_all (is_known_at (series_at ss h.0).instrument (series_at ss h.0).attributes) (map part_of ps) ≡ true
-      → EachOf (λ (p : Piped). EachOf (Knows ss p) gs) ps → EachOf (λ (p : Piped). EachOf (Knows ss p) (h ∷ gs)) ps
-  both-each h gs [] e all = tt
-  both-each h gs (p ∷ ps) e all = let b = and_parts _ _ e in ((b.0, all.0), both-each h gs ps b.1 all.1)
+  -- all readers know the series of this group
+  abbrev AllKnow : List ReaderPart → ℕ × List NumberValue → Type 0
+  AllKnow qs h = list_all (is_known_at (series_at ss h.0).instrument (series_at ss h.0).attributes) qs ≡ true
 
-  none-each : (ps : List Piped) → EachOf (λ (p : Piped). EachOf (Knows ss p) []) ps
-  none-each [] = tt
-  none-each (p ∷ ps) = (tt, none-each ps)
-
-  -- each reader knows the series that all streams know
-  knows-each : (st : State) (gs : List (ℕ × List NumberValue)) (ps : List Piped) → st.readers ≡ map part_of ps → EachOf (IsKnownGroup ss st) gs → EachOf (λ (p : Piped). EachOf (Knows ss p) gs) ps
-  knows-each st [] ps at known = none-each ps
-  knows-each st (h ∷ gs) ps at known =
-      both-each h gs ps (subst (λ (qs : List ReaderPart). list_all (is_known_at (series_at ss h.0).instrument (series_at ss h.0).attributes) qs ≡ true) at known.0.known) (knows-each st gs ps at known.1)
+  -- so each of them does
+  knows-each : (gs : List (ℕ × List NumberValue)) (ps : List Piped) → EachOf (AllKnow (map part_of ps)) gs → EachOf (λ (p : Piped). EachOf (Knows ss p) gs) ps
+  knows-each gs [] known = tt
+  knows-each gs (p ∷ ps) known = (
+    each_weaker (AllKnow (map part_of (p ∷ ps))) (Knows ss p) gs (λ h e. (and_parts _ _ e).0) known,
+    knows-each gs ps (each_weaker (AllKnow (map part_of (p ∷ ps))) (AllKnow (map part_of ps)) gs (λ h e. (and_parts _ _ e).1) known),
+  )
 
   -- the records of the first series are taken in at each reader
   next-each : (g : ℕ × List NumberValue) (gs : List (ℕ × List NumberValue)) (ps : List Piped) → EachOf IsLawful ps → EachOf (λ (p : Piped). EachOf (Knows ss p) (g ∷ gs)) ps
@@ -70,7 +62,7 @@ ready-next ss k vs gs s at old new is more lawful made accepted st ready = recor
   readers = map (recorded_by (series_at ss k) vs) ready.readers;
   prepared = made
       ∙ (λ i. map (changed_by (contents_after_next vs) (at i).instrument) (ready.prepared i))
-      ∙ next-each ss (k, vs) gs ready.readers each-lawful (knows-each ss st ((k, vs) ∷ gs) ready.readers ready.inside.readers ready.known);
+      ∙ next-each ss (k, vs) gs ready.readers each-lawful (knows-each ss ((k, vs) ∷ gs) ready.readers (subst (λ (qs : List ReaderPart). EachOf (AllKnow ss qs) ((k, vs) ∷ gs)) ready.inside.readers (each_weaker (IsKnownGroup ss st) (AllKnow ss st.readers) ((k, vs) ∷ gs) (λ h is. is.known) ready.known)));
   inside = group-made ss k vs (series_at ss k) refl (map part_of ready.readers) is more (map part_of (map (recorded_by (series_at ss k) vs) ready.readers))
       (λ known. parts-recorded (series_at ss k) vs ready.readers each-lawful typed)
       (subst (λ (s : Series). more ≡ changed_at s.instrument (instrument_after_each vs) is) at accepted)
@@ -88,11 +80,7 @@ ready-next ss k vs gs s at old new is more lawful made accepted st ready = recor
 -- ======== records that are given up ========
 -- records of no values take what is prepared next out, and change nothing else
 idle-one : (k : StreamContents) → without_pending (contents_after_next [] k) ≡ without_pending k
-idle-one k = by (is_next_placed k.pending k.stream.machine.table.entries)
-  where
-    by : (b : Bool) → without_pending (cond b (record k { pending = drop 1 k.pending }) k) ≡ without_pending k
-    by true = refl
-    by false = refl
+idle-one k = cond_both (is_next_placed k.pending k.stream.machine.table.entries) (record k { pending = drop 1 k.pending }) k (λ (h : StreamContents). without_pending h ≡ without_pending k) (λ _. refl) (λ _. refl)
 
 pub idle-parts : (n : ℕ) (ps : List Piped) → map part_of (map (changed_by (contents_after_next []) n) ps) ≡ map part_of ps
 idle-parts n [] = refl

@@ -8,7 +8,7 @@ use Rattle.otel_model.specs.Demands.{Views}
 use Rattle.otel_model.specs.Machine.{accepted_after}
 use Rattle.otel_model.specs.Refusals.{refusal}
 use Rattle.otel_model.specs.State.{State}
-use Rattle.otel_model.specs.Steps.{Step, answer_of, after, after_by, reply_by, asks_readers}
+use Rattle.otel_model.specs.Steps.{Step, after, after_by, asks_readers}
 use Rattle.otel_model.specs.Steps as steps
 use Rattle.otel_stream.specs.Requests.{Outcome}
 use Rattle.opentelemetry_sdk.specs.Readers.{StepReaches, RunReaches, shut_after}

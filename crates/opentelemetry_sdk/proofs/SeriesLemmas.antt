@@ -5,6 +5,8 @@ use Rattle.std.proofs.lemmas.Option.{slice_get-map}
 use Rattle.std.specs.Map.{lookup}
 use Rattle.indexmap.proofs.MapLemmas.{some_index}
 use Rattle.indexmap.specs.Layout.{set_value_at}
+use Rattle.otel_model.proofs.Amounts.{each_at}
+use Rattle.otel_model.proofs.Single.{get_map, some_is}
 use Rattle.opentelemetry_sdk.specs.Lent.{shared_list}
 use Rattle.opentelemetry_sdk.specs.Series.{IsListOf}
 use Rattle.opentelemetry_sdk.specs.declared.calls.record_attributes.SharedAttributes.{SharedAttributes}
@@ -32,9 +34,4 @@ lists-kept (e ∷ es) (suc i) v w at same all = (all.0, lists-kept es i v w at s
 
 -- the list at a place is that of its series
 pub list-at : (es : List (Series × SharedAttributes)) (i : ℕ) (e : Series × SharedAttributes) (v : SharedAttributes) → Some e ≡ slice_get es i → Some v ≡ slice_get (map (λ e. e.1) es) i → AllByRecursion IsListOf es → shared_list v ≡ e.0.attributes
-list-at [] i e v at is all = absurd (cc)
-list-at (x ∷ es) zero e v at is all =
-    let same : e ≡ x = cc in
-    let list : v ≡ x.1 = cc in
-    ap shared_list list ∙ all.0 ∙ sym (ap (λ (y : Series × SharedAttributes). y.0.attributes) same)
-list-at (x ∷ es) (suc i) e v at is all = list-at es i e v at is all.1
+list-at es i e v at is all = ap shared_list (some_is v e.1 (is ∙ get_map (λ (x : Series × SharedAttributes). x.1) es i e (sym at))) ∙ each_at IsListOf es i e all (sym at)

@@ -1,17 +1,16 @@
 -- What calls keep of a provider's state.
-use Rattle.std.proofs.Common.{⊎_elim, ℕ, zero, suc, List, [], ◌∷◌, map, length, Option, Some, None, refl, sym, subst}
+use Rattle.std.proofs.Common.{ℕ, zero, suc, List, [], ◌∷◌, map, Option, Some, None, refl}
 use Rattle.otel_model_stream.specs.Folds.{Amount}
-use Rattle.otel_model.specs.Calls.{Call, Build, Record, Bind, RecordBound, Unbind, Collect, Fault, Reply}
+use Rattle.otel_model.specs.Calls.{Call, Build, Record, Bind, RecordBound, Unbind, Collect, Reply}
 use Rattle.otel_model.specs.Demands.{ReaderAnswers, Views}
 use Rattle.otel_model.specs.Machine.{changed_at, accepted_after, accepted_by, new_part, new_state, part_after_call}
-use Rattle.otel_model.specs.Refusals.{refusal, instrument_held}
+use Rattle.otel_model.specs.Refusals.{instrument_held}
 use Rattle.otel_model.specs.Resources.{Resource}
 use Rattle.otel_model.specs.Sent.{scope_of}
 use Rattle.otel_model.specs.State.{InstrumentState, ReaderPart, State}
-use Rattle.otel_model.specs.Steps.{Step, after, after_by}
-use Rattle.otel_model.proofs.Single.{step_cases}
-use Rattle.otel_model.specs.Lawful.{Balances}
-use Rattle.otel_model.proofs.Booked.{first_lawful, run_lawful, balances_law}
+use Rattle.otel_model.specs.Steps.{Step}
+use Rattle.opentelemetry_sdk.proofs.Stepped.{step-holds}
+use Rattle.otel_model.proofs.Booked.{first_lawful, run_lawful}
 use Rattle.opentelemetry_sdk.specs.States.{AreTyped, IsSound}
 use Rattle.opentelemetry_sdk.proofs.Typed.{typed-built, typed-kept, typed-sent}
 
@@ -37,13 +36,6 @@ typed-accepted views st (Unbind h) all = typed-kept st.shared.instruments st.sha
 typed-accepted views st (Collect r now os) all = typed-changed st.shared.instruments st.shared.next r (Collect r now os) st.readers all
 typed-accepted views st call all = all
 
-typed-after : (views : Views) (st : State) (call : Call) → StaysTyped st → StaysTyped (after views st call)
-typed-after views st call all = go (refusal st.shared (length st.readers) call)
-  where
-    go : (o : Option Fault) → StaysTyped (after_by o st (accepted_after views st call))
-    go None = typed-accepted views st call all
-    go (Some f) = all
-
 -- ======== whole states ========
 first-typed : (readers : List ReaderAnswers) → AreTyped [] (map new_part readers)
 first-typed [] = tt
@@ -56,12 +48,6 @@ first-sound resource identity readers = record { typed = first-typed readers; la
 -- so is one after a call
 pub sound-step : (views : Views) (old new : State) (call : Call) (reply : Reply) → IsSound old → Step views old call reply new → IsSound new
 sound-step views old new call reply sound step = record {
-  typed = ⊎_elim
-      (λ e. subst StaysTyped (sym e.1) sound.typed)
-      (λ e. subst StaysTyped (sym e.1) (typed-after views old call sound.typed))
-      (step_cases views old new call reply step);
+  typed = step-holds StaysTyped views old new call reply sound.typed (typed-accepted views old call sound.typed) step;
   lawful = run_lawful views old new (call ∷ []) (reply ∷ []) (new, step, refl) sound.lawful;
 }
-
-pub sound-balances : (st : State) → IsSound st → Balances st
-sound-balances st sound = balances_law st sound.lawful

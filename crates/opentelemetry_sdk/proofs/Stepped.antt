@@ -1,5 +1,5 @@
 -- Calls that are refused are steps of the model's machine.
-use Rattle.std.proofs.Common.{◌≡◌, ◌∙◌, IsTrue, length, Some, None, refl, sym, ap, subst}
+use Rattle.std.proofs.Common.{◌≡◌, ◌∙◌, ⊎_elim, IsTrue, length, Option, Some, None, refl, sym, ap, subst}
 use Rattle.otel_common.specs.declared.faults.Fault.{Fault}
 use Rattle.otel_common.specs.declared.faults.Fault.TheVariants as fault
 use Rattle.otel_common.specs.declared.faults.InternalFault.TheVariants as inner
@@ -9,6 +9,7 @@ use Rattle.otel_model.specs.Machine.{accepted_after}
 use Rattle.otel_model.specs.Refusals.{refusal}
 use Rattle.otel_model.specs.State.{State}
 use Rattle.otel_model.specs.Steps.{Step, takes_memory, answer_of, reply_by, after_by, reply_of, after}
+use Rattle.otel_model.proofs.Single.{step_cases}
 use Rattle.opentelemetry_sdk.specs.Correspondence.{fault_of}
 use Rattle.opentelemetry_sdk.specs.States.{IsFault}
 
@@ -41,3 +42,11 @@ pub memory-step : (views : Views) (old new : State) (call : model.Call) (f : Fau
 memory-step views old new call f takes is none same =
     let P : Fault → Type 0 = λ g. Step views old call (model.Reply.Refused (fault_of g)) new in
     subst P (sym is) (takes, none, same)
+
+-- what holds before a call, and once it is accepted, holds after its step
+pub step-holds : (P : State → Type 0) (views : Views) (old new : State) (call : model.Call) (reply : model.Reply) → P old → P (accepted_after views old call) → Step views old call reply new → P new
+step-holds P views old new call reply before accepted step = ⊎_elim (λ e. subst P (sym e.1) before) (λ e. subst P (sym e.1) (by (refusal old.shared (length old.readers) call))) (step_cases views old new call reply step)
+  where
+    by : (o : Option model.Fault) → P (after_by o old (accepted_after views old call))
+    by None = accepted
+    by (Some f) = before

@@ -1,7 +1,7 @@
 -- A submission goes on by one record.
-use Rattle.std.proofs.Common.{◌≡◌, ℕ, ◌+◌, ◌-◌, ◌<◌, ◌≤◌, List, [], ◌∷◌, ◌++◌, map, length, get_or, take, drop, sum_by, refl, sym, ap, ◌∙◌, subst, arith, add-one, length-drop, drop-cons}
-use Rattle.std.proofs.Math.Seq.{take-suc, take-add}
-use Rattle.std.proofs.lemmas.List.{map-append, drop-drop}
+use Rattle.std.proofs.Common.{◌≡◌, ℕ, ◌+◌, ◌-◌, ◌<◌, ◌≤◌, List, [], ◌∷◌, ◌++◌, map, length, get_or, take, drop, sum_by, refl, sym, ap, ◌∙◌, subst, arith, length-drop}
+use Rattle.std.proofs.Math.Seq.{take-add}
+use Rattle.std.proofs.lemmas.List.{map-append, drop-drop, drop_more, take_more}
 use Rattle.std.proofs.lemmas.List.Sums.{sum_by-append}
 use Rattle.otel_model.specs.Calls.{Call}
 use Rattle.otel_model.specs.State.{State}
@@ -11,11 +11,9 @@ use Rattle.opentelemetry_sdk.specs.declared.metrics.shared.pending.PendingRecord
 -- the first of what is left goes to the end of what was taken
 pub taken-more : (ps : List PendingRecord) (n : ℕ) (p : PendingRecord) (rest : List PendingRecord) → n < length ps → p ∷ rest ≡ drop n ps → (take (n + 1) ps ≡ take n ps ++ p ∷ []) × (rest ≡ drop (n + 1) ps)
 taken-more ps n p rest lt is =
-    let next = drop-cons ps n p lt in
+    let next : p ∷ rest ≡ get_or ps n p ∷ drop (n + 1) ps = is ∙ drop_more ps n p lt in
     let here : p ≡ get_or ps n p = cc in
-    let later : rest ≡ drop (n + 1) ps = rw add-one (cc) in
-    let taken = take-suc ps n p lt in
-    (rw add-one (taken ∙ ap (λ q. take n ps ++ q ∷ []) (sym here)), later)
+    (take_more ps n p lt ∙ ap (λ q. take n ps ++ q ∷ []) (sym here), cc)
 
 -- the first record is one
 pub submits_one : (old : State) (before : List PendingRecord) (new : State) (after : List PendingRecord) (n v : ℕ) (p : PendingRecord) → before ≡ p ∷ after → IsDone old (call_in p) new → n ≡ 1 → v ≡ bits_in p → Submits old before new after n v

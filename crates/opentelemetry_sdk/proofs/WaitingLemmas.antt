@@ -28,25 +28,17 @@ taken ss rs xs n place value r s same lt get is at =
 
 -- ======== series ========
 module _ (q : Series) where
-  -- the series that is found is the one that was looked for
-  found-is : (ss : List Series) (i : ℕ) (d : Series) → position (series_eq q) ss ≡ Some i → (i < length ss) × (get_or ss i d ≡ q)
-  found-is ss i d at =
-      let p = position-Some (series_eq q) ss i d at in
-      (p.0, sym ((series_eq-Decides q (get_or ss i d)).0 p.1))
-
-  -- and a series that is not found is not there
-  not-there : (ss : List Series) → position (series_eq q) ss ≡ None → Contains ss q → ⊥
-  not-there ss none there =
-      let found : list_any (series_eq q) ss ≡ true = list_any_at (series_eq q) ss there.0 q there.1 ((series_eq-Decides q (get_or ss there.0 q)).1 (sym there.2)) in
-      true≢false (sym found ∙ sym (any-position (series_eq q) ss) ∙ ap is_some none)
-
   -- what a look-up answers
   pub place-there : (ss : List Series) (r : Option ℕ) → r ≡ position (series_eq q) ss → IfSome r (λ n. (n < length ss) × (get_or ss n (series 0 []) ≡ q))
   place-there ss None e = tt
-  place-there ss (Some n) e = found-is ss n (series 0 []) (sym e)
+  place-there ss (Some n) e =
+      let p = position-Some (series_eq q) ss n (series 0 []) (sym e) in
+      (p.0, sym ((series_eq-Decides q (get_or ss n (series 0 []))).0 p.1))
 
   pub place-unknown : (ss : List Series) (r : Option ℕ) → r ≡ position (series_eq q) ss → IfNone r (¬ Contains ss q)
-  place-unknown ss None e = λ there. not-there ss (sym e) there
+  place-unknown ss None e = λ there.
+      (let found : list_any (series_eq q) ss ≡ true = list_any_at (series_eq q) ss there.0 q there.1 ((series_eq-Decides q (get_or ss there.0 q)).1 (sym there.2)) in
+      true≢false (sym found ∙ sym (any-position (series_eq q) ss) ∙ ap is_some (sym e)))
   place-unknown ss (Some n) e = tt
 
 -- a list of series goes on

@@ -7,7 +7,6 @@ pub mod Identities
 pub mod Observes
 pub mod Once
 pub mod Outcomes
-pub mod Feeds
 pub mod DemandLemmas
 pub mod PipelineLemmas
 pub mod PipelinesLemmas
@@ -19,6 +18,4 @@ pub mod ViewLemmas
 pub mod Writes
 pub mod Handles
 pub mod Known
-pub mod NoAttributes
 pub mod Settled
-pub mod Batches

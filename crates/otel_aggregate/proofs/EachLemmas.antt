@@ -1,5 +1,6 @@
 -- Records of several values are made one after another.
 use Rattle.std.proofs.Common.{◌≡◌, ℕ, suc, ◌+◌, ◌-◌, arith, Bool, true, false, cond, ◌||◌, ◌==◌, true≢false, List, [], ◌∷◌, map, fold, length, slice_get, Option, Some, None, refl, sym, ◌∙◌, ap}
+use Rattle.std.proofs.lemmas.Bool.{cond_both}
 use Rattle.std.proofs.lemmas.List.{map-id}
 use Rattle.std.proofs.lemmas.Simd.{map-map}
 use Rattle.otel_common.specs.Equality.{set_eq}
@@ -65,11 +66,7 @@ same-set [] e = refl
 same-set (v ∷ vs) e = same-set vs (write v e)
 
 on-same : (s : AttributeSet) (e : Entry) → on s (λ x. x) e ≡ e
-on-same s e = by (is_of s e)
-  where
-    by : (b : Bool) → cond b e e ≡ e
-    by true = refl
-    by false = refl
+on-same s e = cond_both (is_of s e) e e (λ x. x ≡ e) (λ q. refl) (λ q. refl)
 
 on-again : (s : AttributeSet) (v : Sample) (g : Entry → Entry) (e : Entry) → on s g (on s (write v) e) ≡ on s (λ x. g (write v x)) e
 on-again s v g e = by (is_of s e) refl

@@ -11,14 +11,12 @@ use Rattle.otel_model_stream.specs.Folds.{Sample, Fold, Total, Last, Spreads, re
 use Rattle.otel_model_stream.specs.Entries.{Entry, Point, Table, new_entry, is_of, has, number_counted, entries_with_place, entry_for, on, write, place, take_handle, drop_handle, reset, stays, points, point_of_entry}
 use Rattle.otel_model_stream.specs.Maps.{MapState, new_map, bound_map, updated_bound, unbound_map, evicted_map, drained_map}
 use Rattle.otel_aggregate.specs.value_map.Contents.{MapContents}
-use Rattle.otel_aggregate.specs.value_map.Slots.{HasForm}
 use Rattle.otel_aggregate.specs.declared.settings.AnySettings.{AnySettings}
 use Rattle.otel_aggregate.specs.declared.settings.AnySettings.TheVariants as kinds
 use Rattle.otel_aggregate.specs.Any.{Form, form_of, aggregate_of, drains_of}
-use Rattle.otel_aggregate.specs.Kept.{form_of_fold, IsWithin, IsWithinIfSome, IsKept, AreKept, IsKeptMap, IsReportedOf, AreShowable, state_of}
+use Rattle.otel_aggregate.specs.Kept.{IsWithin, IsWithinIfSome, IsKept, AreKept, IsKeptMap, IsReportedOf, AreShowable, state_of}
 use Rattle.otel_aggregate.specs.Links.{Link}
 use Rattle.otel_aggregate.proofs.All.{all-map, all-append, all-filter}
-use Rattle.otel_aggregate.proofs.ObservedLemmas.{drained-exchanged}
 
 -- ======== folds ========
 within-lesser : (s : Bool) (o : Option ℤ) (z : ℤ) → IsWithin s z → IsWithinIfSome s o → IsWithinIfSome s (lesser o z)
@@ -116,16 +114,6 @@ reported-same k old new links room (Some r) e is = (is.0 ∙ sym e, is.1, is.2, 
 -- ======== drafts ========
 pub kept-like : {s t : Bool} {k l : Form} (x : Table) → t ≡ s → l ≡ k → AreKept t l x → AreKept s k x
 kept-like {s} {t} {k} {l} x number form kept = subst (λ b. AreKept b k x) number (subst (λ (f : Form). AreKept t f x) form kept)
-
-pub kept-moved : {s t : Bool} (k : Form) (m : MapState) (x : Table) → s ≡ t → x ≡ m.table → IsKeptMap s k m → AreKept t (form_of_fold x.none.fold) x
-kept-moved k m x number is kept = kept-like x number (sym (ap (λ (t : Table). form_of_fold t.none.fold) is ∙ kept.1.0.0)) (subst (AreKept _ k) (sym is) kept.1)
-
--- with another table, of entries that no handle holds
-pub reported-exchanged : {A : Type 0} (meaning : A → Fold) (s : Bool) (k : Form) (m : MapState) (t : Table) (links : List Link) (room : Bool) (o : Option MapState) → HasForm meaning m.table → HasForm meaning t → IsKeptMap s k m → AreKept s k t → t.none.handles ≡ m.table.none.handles
-    → IsReportedOf k m links room o → IsReportedOf k (record m { table = t }) links room o
-reported-exchanged meaning s k m t links room None was is before after held reported = tt
-reported-exchanged meaning s k m t links room (Some r) was is before after held reported =
-    reported-same k m (record m { table = t }) links room (Some r) (drained-exchanged meaning m t was is (before.1.0.0 ∙ reported.3) (after.0.0 ∙ reported.3) held) reported
 
 -- ======== points ========
 pub showable-points : (s : Bool) (k : Form) (every : Bool) (t : Table) → AreKept s k t → AreShowable s k (points every t)

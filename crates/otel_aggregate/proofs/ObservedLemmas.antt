@@ -1,22 +1,20 @@
 -- What draining leaves, and what a stream of observed sums shows.
-use Rattle.std.proofs.Common.{ℕ, ◌≡◌, ◌∙◌, List, [], ◌∷◌, map, Bool, true, false, cond, Option, Some, None, refl, ap, sym}
+use Rattle.std.proofs.Common.{ℕ, ◌≡◌, ◌∙◌, List, [], ◌∷◌, map, Bool, true, false, cond, Option, Some, None, refl, ap}
 use Rattle.std.specs.Prelude.{ℤ}
+use Rattle.std.specs.Option.{option_map_or}
 use Rattle.std.proofs.lemmas.Bool.{cond_both}
 use Rattle.otel_common.specs.Equality.{set_eq}
 use Rattle.otel_common.specs.declared.metrics.Temporality.{Temporality}
 use Rattle.otel_data.specs.declared.points.SumDataPoint.{SumDataPoint}
-use Rattle.otel_model_stream.specs.Sets.{AttributeSet, none_set}
-use Rattle.otel_model_stream.specs.Folds.{Sample, Fold, Total, Last, Spreads, clear_fold}
-use Rattle.otel_model_stream.specs.Entries.{Entry, Point, Table, is_of, on, write, reset}
+use Rattle.otel_model_stream.specs.Sets.{AttributeSet}
+use Rattle.otel_model_stream.specs.Folds.{Sample}
+use Rattle.otel_model_stream.specs.Entries.{Entry, Point, is_of, on, write, reset}
 use Rattle.otel_model_stream.specs.Maps.{MapState, updated_bound, drained_map}
 use Rattle.otel_model_stream.specs.Observed.{fold_in, value_before, difference}
 use Rattle.otel_model_stream.specs.Totals.{value_of}
 use Rattle.otel_model_stream.specs.Data.{sum_point}
 use Rattle.otel_model_stream.proofs.Clearing.{cleared-recorded}
-use Rattle.otel_aggregate.specs.value_map.Slots.{HasForm}
-use Rattle.otel_aggregate.specs.Any.{LastValues}
 use Rattle.otel_aggregate.specs.Data.{temporality_of}
-use Rattle.otel_aggregate.specs.Kept.{form_of_fold}
 use Rattle.otel_aggregate.specs.Observed.{ObservedState, values_now, since_reported, sums_now, observed_data}
 
 -- ======== draining ========
@@ -27,42 +25,14 @@ reset-on g v e = cond_both (is_of g e) (write v e) e (λ x. reset x ≡ reset e)
 pub drained-updated : (g : AttributeSet) (v : Sample) (m : MapState) → drained_map (updated_bound g v m) ≡ drained_map m
 drained-updated g v m = ap (λ (none : Entry). record m { table = record { none = none; entries = [] } }) (reset-on g v m.table.none)
 
--- a last value is forgotten
-cleared-last : (f : Fold) → form_of_fold f ≡ LastValues → clear_fold f ≡ Last 0
-cleared-last (Total n) e = absurd (cc)
-cleared-last (Last n) e = refl
-cleared-last (Spreads s) e = absurd (cc)
-
--- the entry of the empty set, forgotten, if it keeps a last value
-reset-form : {A : Type 0} (meaning : A → Fold) (t : Table) → HasForm meaning t → form_of_fold t.none.fold ≡ LastValues
-    → reset t.none ≡ record { set = none_set; counted = false; updated = false; fold = Last 0; handles = t.none.handles }
-reset-form meaning t h last =
-    ap reset h.1
-    ∙ ap (λ f. record { set = none_set; counted = false; updated = false; fold = f; handles = t.none.handles }) (cleared-last (meaning h.0) (ap (λ (e : Entry). form_of_fold e.fold) (sym h.1) ∙ last))
-
--- a map of last values is drained to the same with another table of these
-pub drained-exchanged : {A : Type 0} (meaning : A → Fold) (m : MapState) (t : Table) → HasForm meaning m.table → HasForm meaning t → form_of_fold m.table.none.fold ≡ LastValues → form_of_fold t.none.fold ≡ LastValues → t.none.handles ≡ m.table.none.handles
-    → drained_map (record m { table = t }) ≡ drained_map m
-drained-exchanged meaning m t was is before after held =
-    ap (λ (none : Entry). record m { table = record { none = none; entries = [] } })
-    (reset-form meaning t is after ∙ ap (λ n. record { set = none_set; counted = false; updated = false; fold = Last 0; handles = n }) held ∙ sym (reset-form meaning m.table was before))
-
 -- ======== points ========
-pub value_before_none : (ps : List Point) (x : AttributeSet) → fold_in ps x ≡ None → value_before ps x ≡ 0
-value_before_none [] x e = refl
-value_before_none (p ∷ ps) x e = by (set_eq p.0 x) e (value_before_none ps x)
+pub value_before_found : (ps : List Point) (x : AttributeSet) → value_before ps x ≡ option_map_or value_of (fold_in ps x) 0
+value_before_found [] x = refl
+value_before_found (p ∷ ps) x = by (set_eq p.0 x) (value_before_found ps x)
   where
-    by : (b : Bool) → cond b (Some p.1) (fold_in ps x) ≡ None → (fold_in ps x ≡ None → value_before ps x ≡ 0) → cond b (value_of p.1) (value_before ps x) ≡ 0
-    by true e ih = absurd (cc)
-    by false e ih = ih e
-
-pub value_before_some : (ps : List Point) (x : AttributeSet) (f : Fold) → fold_in ps x ≡ Some f → value_before ps x ≡ value_of f
-value_before_some [] x f e = absurd (cc)
-value_before_some (p ∷ ps) x f e = by (set_eq p.0 x) e (value_before_some ps x f)
-  where
-    by : (b : Bool) → cond b (Some p.1) (fold_in ps x) ≡ Some f → (fold_in ps x ≡ Some f → value_before ps x ≡ value_of f) → cond b (value_of p.1) (value_before ps x) ≡ value_of f
-    by true e ih = let same : p.1 ≡ f = cc in ap value_of same
-    by false e ih = ih e
+    by : (b : Bool) → value_before ps x ≡ option_map_or value_of (fold_in ps x) 0 → cond b (value_of p.1) (value_before ps x) ≡ option_map_or value_of (cond b (Some p.1) (fold_in ps x)) 0
+    by true h = refl
+    by false h = h
 
 -- each point by itself, or all of them
 pub since_reported-all : {X : Type 0} (f : Point → X) (resets : Bool) (before ps : List Point)

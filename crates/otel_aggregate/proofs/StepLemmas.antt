@@ -1,6 +1,7 @@
 -- What a map's steps leave of what is known of its handles.
 use Rattle.std.proofs.Common.{◌≡◌, ℕ, Bool, true, false, cond, not, ◌&&◌, ◌||◌, ◌+◌, List, [], ◌∷◌, ◌++◌, drop, fold, Option, Some, None, Result, Ok, Err, ◌⊎◌, inl, inr, is_some, refl, sym, ap, subst, ◌∙◌, nat_eq, true≢false}
 use Rattle.std.specs.Prelude.{IsSome, OnOk, OnErr, is_none, ◌==◌}
+use Rattle.std.proofs.Math.Bool.{and-false}
 use Rattle.std.specs.Bool.{beq}
 use Rattle.std.specs.List.{AllByRecursion, list_all}
 use Rattle.std.specs.Map.{lookup}
@@ -125,11 +126,6 @@ collected-made {s} {old} was now after live pending total undrained resets is sa
     by_drains : Bool → Bool → AggregateContents
     by_drains b c = cond b (with_observed s (drained_at now (observed_in s))) (record s { state = cond c (record s.state { map_state = evicted_map s.state.map_state; start = now; exported = wrap (s.state.exported + points_total (points_now s.state)) }) s.state })
 
--- no handles, no links
-pub no-links : (ns : Numbers) (ps : List Link) → handles_of ns ps ≡ [] → ps ≡ []
-no-links ns [] e = refl
-no-links ns (p ∷ ps) e = absurd (cc)
-
 -- ======== a handle that is looked up ========
 pub held-found : (ns : Numbers) (h : ℕ) (ps : List Link) (o : Option ℕ) → o ≡ lookup (nat_eq h) ps → held_by h (handles_of ns ps) ≡ option_map (λ n. set_named n ns) o
 held-found ns h ps o e = held-linked ns h ps ∙ ap (option_map (λ n. set_named n ns)) (sym e)
@@ -208,12 +204,7 @@ no_bind-prepared s h e = by (s.room && is_none (held_by h s.live)) (next_of s.pe
     by false o e = refl
 
 pub no_bind-live : (s : AggregateContents) (h : ℕ) → is_some (held_by h s.live) ≡ true → s ≡ stream_after_bind h s
-no_bind-live s h e = by s.room (held_by h s.live) e
-  where
-    by : (b : Bool) (o : Option AttributeSet) → is_some o ≡ true → s ≡ cond (b && is_none o) (bind_of (next_of s.pending) h s) s
-    by true None e = absurd (true≢false (sym e))
-    by true (Some g) e = refl
-    by false o e = refl
+no_bind-live s h e = ap (λ b. cond b (bind_of (next_of s.pending) h s) s) (sym (ap (λ b. s.room && not b) e ∙ and-false s.room))
 
 -- ======== a record through a handle, and its end ========
 -- a handle that isn't live

@@ -35,9 +35,9 @@ new_aggregate aggregate is_monotonic allow resets limit start = record {
   exported = 0;
 }
 
--- whether its numbers are signed; the stream; its live handles; the set of the entry that the prepared record or bind
--- uses, if any; whether room is made for a handle; whether each collection empties it, as it does observed sums; and
--- what a stream of these reported in the last collection. A stream of observed sums has no handles
+-- whether its numbers are signed; the stream; its live handles; the sets of the entries that the prepared records or the
+-- prepared bind use, the next one first; whether room is made for a handle; whether each collection empties it, as it does
+-- observed sums; and what a stream of these reported in the last collection. A stream of observed sums has no handles
 pub record AggregateContents : Type 0 where
   pub is_signed : Bool
   pub state : AggregateState

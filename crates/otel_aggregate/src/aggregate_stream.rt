@@ -177,7 +177,7 @@ impl AggregateStream {
         })
     }
 
-    /// Prepares a record with these attributes, in place of one that was prepared before. What the stream shows stays
+    /// Prepares a record with these attributes, in place of what was prepared before. What the stream shows stays
     /// unchanged.
     ///
     /// This is the first of two phases: a record for several streams is prepared in all of them and then taken in by
@@ -399,7 +399,7 @@ impl AggregateStream {
 
     /// Ends a collection, whose points were taken, at the moment `now`, in nanoseconds since 1970. If the stream
     /// resets, the points' total is added up, and it starts again from then; if it drains, what was observed is
-    /// forgotten. In either case a prepared record is given up.
+    /// forgotten. In either case what is prepared is given up.
     pub fn finish(&mut self, now: u64)
         ensures ended { self.new ≡ any_after_collection now self.old }
     {
@@ -441,7 +441,7 @@ impl AggregateStream {
         })
     }
 
-    /// Exchanges the entries and the total of the records with those of a draft, and gives up a prepared record. No
+    /// Exchanges the entries and the total of the records with those of a draft, and gives up what is prepared. No
     /// handle may be live. What observed sums reported stays unchanged. Takes no memory.
     pub fn exchange(&mut self, draft: &mut AggregateDraft)
         requires { IsLike draft.old self.old }

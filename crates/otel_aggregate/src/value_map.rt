@@ -135,7 +135,7 @@ impl<A: Aggregator> ValueMap<A> {
         })
     }
 
-    /// Prepares a record or a bind for the canonical form of a list, in place of one that was prepared before. The list
+    /// Prepares a record or a bind for the canonical form of a list, in place of what was prepared before. The list
     /// is what is kept of the attributes.
     #[inline(always)]
     fn prepare_list(
@@ -185,11 +185,9 @@ impl<A: Aggregator> ValueMap<A> {
         self.pending.give_up();
         let is_few = self.count < self.limit;
         let plan = plan(self.alloc, &self.table, is_few, list, allow, attributes)?;
-        if let Pending::At(_) = plan {
-            self.pending = plan;
-            return Ok(());
+        if let Pending::New(_, _) = plan {
+            make_ready(&mut self.table, &mut self.unused, self.alloc, &self.config)?;
         }
-        make_ready(&mut self.table, &mut self.unused, self.alloc, &self.config)?;
         self.pending = plan;
         Ok(())
     }
@@ -240,7 +238,7 @@ impl<A: Aggregator> ValueMap<A> {
         self.table.add(set, list, slot)
     }
 
-    /// Prepares a record or a bind for the canonical form of the attributes, in place of one that was prepared before.
+    /// Prepares a record or a bind for the canonical form of the attributes, in place of what was prepared before.
     /// The contents of the map stay unchanged.
     ///
     /// This is the first of two phases: a record for several maps is prepared in all of them and then taken in by all.
@@ -306,7 +304,7 @@ impl<A: Aggregator> ValueMap<A> {
         Ok(())
     }
 
-    /// Gives up the prepared record or bind, if there is one.
+    /// Gives up what is prepared, if there is anything.
     pub(crate) fn give_up(&mut self)
         ensures same { self.new.state ≡ self.old.state }
         ensures numbers { self.new.numbers ≡ self.old.numbers }
@@ -341,7 +339,8 @@ impl<A: Aggregator> ValueMap<A> {
 
     /// Prepares a record beside those that are prepared, to be taken in before them, if its entry is there already, and
     /// answers whether it did. Otherwise it gives up what is prepared. The contents of the map stay unchanged. Takes memory
-    /// for a number.
+    /// for a number, and where `prepare` or `prepare_allowed` does; a copy that these make of a set without an entry is let
+    /// go again.
     #[inline(always)]
     pub(crate) fn prepare_known(
         &mut self,
@@ -592,7 +591,7 @@ impl<A: Aggregator> ValueMap<A> {
     }
 
     /// Forgets all records, and evicts the entries that had none since the last time and that no handle holds, except
-    /// the overflow entry. With an entry goes the list that admitted it. A prepared record is given up.
+    /// the overflow entry. With an entry goes the list that admitted it. What is prepared is given up.
     pub(crate) fn reset_and_evict(&mut self)
         ensures state { self.new.state ≡ evicted_map self.old.state }
         ensures numbers { KeepLeft (evicted_map self.old.state).table.entries self.old.numbers self.new.numbers }
@@ -604,7 +603,7 @@ impl<A: Aggregator> ValueMap<A> {
         self.count = self.table.count_counted();
     }
 
-    /// Forgets all records, and all entries but that of the empty set. A prepared record is given up. The map keeps
+    /// Forgets all records, and all entries but that of the empty set. What is prepared is given up. The map keeps
     /// memory for about as many entries as it had, for later ones.
     ///
     /// No handle should be live: its entry is gone, and the entry's number may be given to another one.
@@ -630,7 +629,7 @@ impl<A: Aggregator> ValueMap<A> {
         Ok(Draft { entries, count })
     }
 
-    /// Exchanges the entries with those of a draft, and gives up a prepared record. Takes no memory. Entries may get
+    /// Exchanges the entries with those of a draft, and gives up what is prepared. Takes no memory. Entries may get
     /// other numbers, so no handle should be live.
     pub(crate) fn exchange(&mut self, draft: &mut Draft<A>)
         ensures state { self.new.state ≡ record self.old.state { table = draft.old } }
@@ -666,7 +665,7 @@ impl<A: Aggregator> ValueMap<A> {
     }
 
     /// The points of a resetting collection: of the entries updated since the last one. The map then forgets all
-    /// records, evicts the entries that had none and that no handle holds, and gives up a prepared record. Sets are
+    /// records, evicts the entries that had none and that no handle holds, and gives up what is prepared. Sets are
     /// shared with the entries that stay, and never copied. If it fails, nothing changes.
     pub fn collect_and_reset(
         &mut self,
@@ -685,7 +684,7 @@ impl<A: Aggregator> ValueMap<A> {
     }
 
     /// The points of a draining collection: that of the empty set if it was updated, and those of all other entries.
-    /// The map then forgets all records and all entries but that of the empty set, and gives up a prepared record. No
+    /// The map then forgets all records and all entries but that of the empty set, and gives up what is prepared. No
     /// set is copied. If it fails, nothing changes.
     ///
     /// No handle should be live: its entry is gone, and the entry's number may be given to another one.

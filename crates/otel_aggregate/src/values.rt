@@ -1,6 +1,6 @@
 //! Values of either number type.
 
-ghost use Rattle.std.specs.Prelude.{◌≡◌, ◌^◌, ◌↔◌, IsTrue, false, true, pos, ◌≤ℤ◌, IfSome};
+ghost use Rattle.std.specs.Prelude.{◌≡◌, ◌^◌, ◌↔◌, IsTrue, false, true, pos, ◌≤ℤ◌};
 ghost use Rattle.std.specs.Int.{cast_signed, w64};
 ghost use Rattle.otel_aggregate.specs.Any.{amount_of, is_signed_value};
 ghost use Rattle.otel_aggregate.specs.AnyKept.{sum_with, least_from, greatest_from};
@@ -33,7 +33,6 @@ pub(crate) fn wide_of(value: NumberValue) -> i128
 #[inline]
 pub(crate) fn signed_bits_of(value: NumberValue) -> i64
     ensures bits { result ≡ cast_signed w64 (amount_of value).bits }
-    ensures natural { pos 0 ≤ℤ result → result ≡ (amount_of value).wide }
     ensures signed { is_signed_value value ≡ true → result ≡ (amount_of value).wide }
 {
     bits_of(value).cast_signed()
@@ -64,32 +63,10 @@ pub(crate) fn range_of(values: &[NumberValue], mut least: i128, mut greatest: i1
     ensures least { result.0 ≡ least_from least values.now }
     ensures greatest { result.1 ≡ greatest_from greatest values.now }
 {
-    if let Some(range) = narrow_range(values, least, greatest) {
-        return range;
-    }
     for value in values {
         let wide = wide_of(*value);
         least = least.min(wide);
         greatest = greatest.max(wide);
     }
     (least, greatest)
-}
-
-/// The same, or `None` if a number is negative or isn't an `i64`.
-#[inline]
-fn narrow_range(values: &[NumberValue], least: i128, greatest: i128) -> Option<(i128, i128)>
-    ensures least { IfSome result (λ range. range.0 ≡ least_from least values.now) }
-    ensures greatest { IfSome result (λ range. range.1 ≡ greatest_from greatest values.now) }
-{
-    let mut least = i64::try_from(least).ok()?;
-    let mut greatest = i64::try_from(greatest).ok()?;
-    for value in values {
-        let narrow = signed_bits_of(*value);
-        least = least.min(narrow);
-        greatest = greatest.max(narrow);
-    }
-    if least < 0 {
-        return None;
-    }
-    Some((least as i128, greatest as i128))
 }

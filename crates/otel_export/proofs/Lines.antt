@@ -2,7 +2,7 @@
 use Rattle.std.proofs.Common.{◌≡◌, ℕ, ◌-◌, ◌<◌, ◌≤◌, ◌≢◌, List, [], ◌++◌, length, drop, arith, subst}
 use Rattle.std.proofs.lemmas.Grind.{common_steps}
 use Rattle.std.specs.List.{All}
-use Rattle.otel_export.specs.Outboxes.{AreLines, ended}
+use Rattle.otel_export.specs.Outboxes.{AreLines}
 
 pub lines_behind : (xs ys : List ℕ) → 0 < length ys → AreLines ys → AreLines (xs ++ ys)
 lines_behind xs ys some lines = grind (arith, common_steps)
@@ -12,12 +12,6 @@ lines_left xs n lines = grind (arith, common_steps)
 
 pub all_whole : (xs : List ℕ) (n : ℕ) → AreLines xs → n ≤ length xs → All (λ byte. byte ≢ 10) (drop n xs) → n ≡ length xs
 all_whole xs n lines fits none = grind (arith, common_steps, none (length xs - 1 - n) 10)
-
-pub ended_some : (line : List ℕ) → 0 < length (ended line)
-ended_some line = grind (arith, common_steps)
-
-pub ended_lines : (line : List ℕ) → AreLines (ended line)
-ended_lines line = grind (arith, common_steps)
 
 -- if all that waits is shown and no byte of it stands behind a whole line, nothing is left
 pub none_left : (xs shown : List ℕ) (n : ℕ) → AreLines xs → shown ≡ xs → n ≤ length shown → All (λ byte. byte ≢ 10) (drop n shown) → drop n xs ≡ []

@@ -1,43 +1,24 @@
 -- Which handles the streams of a lawful provider have.
-use Rattle.std.proofs.Common.{◌≡◌, ⊎_elim, ℕ, zero, suc, ◌<◌, ◌≤◌, true, false, List, [], ◌∷◌, length, refl, arith, sym, ◌∙◌, ap, Option, Some, None, subst, cond, Bool}
-use Rattle.std.specs.Prelude.{◌==◌, slice_get, is_some}
+use Rattle.std.proofs.Common.{◌≡◌, ⊎_elim, ℕ, ◌<◌, ◌≤◌, true, false, List, [], ◌∷◌, refl, arith, sym, ◌∙◌, ap, Option, Some, None}
+use Rattle.std.specs.Prelude.{slice_get, is_some}
 use Rattle.std.proofs.lemmas.Bool.{cases_Bool, true≢false}
 use Rattle.otel_model_stream.specs.Events.{held_by}
 use Rattle.otel_model_stream.specs.Totals.{has_number}
-use Rattle.otel_model.specs.Calls.{is_observable, Call, Reply}
-use Rattle.otel_model.specs.Demands.{Identity, Views}
-use Rattle.otel_model.specs.State.{InstrumentState, LiveHandle, Shared, Stream, ReaderPart, State}
+use Rattle.otel_model.specs.Calls.{is_observable}
+use Rattle.otel_model.specs.Demands.{Identity}
+use Rattle.otel_model.specs.State.{InstrumentState, LiveHandle, Shared, Stream, ReaderPart}
 use Rattle.otel_model.specs.Refusals.{instrument_held}
 use Rattle.otel_model.specs.Sent.{is_fed}
-use Rattle.otel_model.specs.Steps.{Step}
-use Rattle.otel_model.proofs.Single.{get_map, some_is}
+use Rattle.otel_model.proofs.Single.{get_map}
 use Rattle.otel_model.proofs.Recorded.{held_is}
-use Rattle.otel_model.specs.Lawful.{EachOf, HandlesAreSound, held_for, IsAccounted, PartIsLawful, IsLawful, HandlesAreOfFeeds, NextIsUnheld, ObservableIsUnheld}
+use Rattle.otel_model.specs.Lawful.{EachOf, HandlesAreSound, held_for, IsAccounted, PartIsLawful, HandlesAreOfFeeds, NextIsUnheld, ObservableIsUnheld}
 use Rattle.otel_model.proofs.Amounts.{each_weaker, absent_below, absent_held, held_when_fed}
-use Rattle.otel_model.proofs.Booked.{run_lawful}
 
 -- ======== instruments ========
 -- a stream is observable exactly if an instrument that feeds it is
 pub fed-kind : (live : List LiveHandle) (is : List InstrumentState) (p : ReaderPart) (n : ℕ) (i : InstrumentState) (x : Identity) → PartIsLawful live is p → slice_get is n ≡ Some i
     → is_fed p.feeds n x ≡ true → is_observable x.kind ≡ is_observable i.kind
 fed-kind live is p n i x a g f = sym (a.kinds n x i.kind f (get_map (λ (i : InstrumentState). i.kind) is n i g))
-
-held_each : (P : ℕ → Type 0) (h n : ℕ) (live : List LiveHandle) → EachOf (λ (q : LiveHandle). P q.1) live → instrument_held h live ≡ Some n → P n
-held_each P h n [] a e = absurd (cc)
-held_each P h n (q ∷ qs) a e = go (q.0 == h) e (held_each P h n qs a.1)
-  where
-    go : (b : Bool) → cond b (Some q.1) (instrument_held h qs) ≡ Some n → (instrument_held h qs ≡ Some n → P n) → P n
-    go true e ih = subst P (some_is q.1 n e) a.0
-    go false e ih = ih e
-
-get_there : {X : Type 0} (xs : List X) (n : ℕ) → n < length xs → (x : X) × (slice_get xs n ≡ Some x)
-get_there [] n h = absurd (omega arith)
-get_there (x ∷ xs) zero h = (x, refl)
-get_there (x ∷ xs) (suc n) h = let g : n < length xs = omega arith in get_there xs n g
-
--- the instrument of a live handle is there
-pub held-instrument : (s : Shared) (h n : ℕ) → HandlesAreSound s → instrument_held h s.live ≡ Some n → (i : InstrumentState) × (slice_get s.instruments n ≡ Some i)
-held-instrument s h n sound e = get_there s.instruments n (held_each (λ k. k < length s.instruments) h n s.live sound.bound e)
 
 -- ======== streams ========
 none_when : {X : Type 0} (o : Option X) → is_some o ≡ false → o ≡ None
@@ -84,9 +65,6 @@ observable-unheld live is p n i a g o =
     (λ q u f. u (fed-kind live is p n i q.demand.identity a g f ∙ o)) a.unheld
 
 -- ======== providers ========
--- a step keeps a provider lawful: it is a run of one call
-pub step-lawful : (views : Views) (old new : State) (call : Call) (reply : Reply) → Step views old call reply new → IsLawful old → IsLawful new
-step-lawful views old new call reply step a = run_lawful views old new (call ∷ []) (reply ∷ []) (new, step, refl) a
 
 pub feeds_law : HandlesAreOfFeeds
 feeds_law st a = each_weaker (PartIsLawful st.shared.live st.shared.instruments)

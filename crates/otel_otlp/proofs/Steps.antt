@@ -35,13 +35,6 @@ pub record Left {A : Type 0} (f : A → Json) (old new : Written) (xs left : Lis
   pub whole : new.tokens ++ items_tokens (items_from (map f left)) ≡ old.tokens ++ json_tokens (array_of f xs)
   pub before : new.before ≡ old.before
 
-pub left_less : {A : Type 0} (f : A → Json) (old new newer : Written) (xs : List A) (x : A) (left : List A)
-    → Left f old new xs (x ∷ left) → newer.tokens ≡ new.tokens ++ json_tokens (f x) → newer.before ≡ new.before → Left f old newer xs left
-left_less f old new newer xs x left w e b = record {
-  whole = ap (λ t. t ++ items_tokens (items_from (map f left))) e ∙ append_assoc new.tokens (json_tokens (f x)) (items_tokens (items_from (map f left))) ∙ w.whole;
-  before = b ∙ w.before;
-}
-
 -- ======== steps, one after another ========
 
 pub joined2 : {A : Type 0} (t a b : List A) → (t ++ a) ++ b ≡ t ++ (a ++ b)

@@ -1,7 +1,7 @@
 -- The families of a collection, with their metrics, are those of its definition.
-use Rattle.std.proofs.Common.{◌≡◌, ℕ, ◌+◌, ◌%◌, ◌^◌, ◌<◌, ◌≤◌, Bool, true, false, cond, List, [], ◌∷◌, ◌++◌, length, map, filter, fold, flat_map, take, get_or, refl, sym, ap, ◌∙◌, append_assoc, append-nil, arith}
+use Rattle.std.proofs.Common.{◌≡◌, ℕ, ◌+◌, ◌%◌, ◌^◌, ◌<◌, Bool, true, false, cond, List, [], ◌∷◌, ◌++◌, length, map, filter, fold, flat_map, take, get_or, refl, sym, ap, ◌∙◌, append_assoc, append-nil, arith}
 use Rattle.std.proofs.lemmas.Grind.{flat_map-append}
-use Rattle.std.proofs.lemmas.List.{map-append, take_more, take_all}
+use Rattle.std.proofs.lemmas.List.{take_more}
 use Rattle.otel_data.specs.declared.collections.Metric.{Metric}
 use Rattle.otel_data.specs.declared.collections.ResourceMetrics.{ResourceMetrics}
 use Rattle.otel_data.specs.declared.collections.ScopeMetrics.{ScopeMetrics}
@@ -19,13 +19,6 @@ use Rattle.otel_prometheus.specs.declared.settings.Settings.{Settings}
 use Rattle.otel_prometheus.proofs.SeriesLemmas.{text_of_append}
 
 -- ======== loops ========
-pub members_more : {A B : Type 0} (f : A → B) (seen : List B) (xs : List A) (i : ℕ) (d : A) → i < length xs → (seen ++ map f (take i xs)) ++ f (get_or xs i d) ∷ [] ≡ seen ++ map f (take (i + 1) xs)
-members_more f seen xs i d l =
-    append_assoc seen (map f (take i xs)) (f (get_or xs i d) ∷ [])
-    ∙ ap (λ ys. seen ++ ys) (sym (map-append f (take i xs) (get_or xs i d ∷ [])) ∙ ap (map f) (sym (take_more xs i d l)))
-
-pub members_end : {A B : Type 0} (f : A → B) (seen : List B) (xs : List A) (i : ℕ) → length xs ≤ i → seen ++ map f (take i xs) ≡ seen ++ map f xs
-members_end f seen xs i l = ap (λ ys. seen ++ map f ys) (take_all i xs l)
 
 pub scopes_more : {A B : Type 0} (f : A → List B) (xs : List A) (i : ℕ) (d : A) → i < length xs → flat_map f (take i xs) ++ f (get_or xs i d) ≡ flat_map f (take (i + 1) xs)
 scopes_more f xs i d l =

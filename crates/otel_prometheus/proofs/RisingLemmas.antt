@@ -347,10 +347,6 @@ closing_brace : (ls : List Pair) → comma_texts ls ++ 125 ∷ [] ≡ more_label
 closing_brace [] = refl
 closing_brace (l ∷ ls) = ap (λ t. 44 ∷ t) (append_assoc (label_text l) (comma_texts ls) (125 ∷ []) ∙ ap (λ t. label_text l ++ t) (closing_brace ls))
 
-pub no_braces : (ls : List Pair) (before text : List ℕ) → text ≡ before ++ comma_texts ls → length text ≤ length before → text ≡ before ++ labels_text ls
-no_braces [] before text e h = e
-no_braces (l ∷ ls) before text e h = absurd (omega (arith, h, ap length e, length-append before (comma_texts (l ∷ ls))))
-
 set_behind : (before rest : List ℕ) (x y : ℕ) → slice_set (before ++ x ∷ rest) (length before) y ≡ before ++ y ∷ rest
 set_behind [] rest x y = refl
 set_behind (b ∷ before) rest x y = ap (λ t. b ∷ t) (set_behind before rest x y)
@@ -391,10 +387,6 @@ opened (l ∷ ls) m text front b e f =
     ap (λ t. (t ++ 44 ∷ []) ++ rest) (same_front front body b 125 (sym f ∙ whole))
     ∙ (append_assoc body (44 ∷ []) rest
     ∙ ap (λ t. 123 ∷ t) (append_assoc (label_text l) (comma_texts ls) (44 ∷ rest) ∙ ap (λ t. label_text l ++ t) (sym (more_with_more ls m))))
-
-pub opened_none : (ls : List Pair) (m : Pair) (text : List ℕ) → text ≡ labels_text ls → length text ≡ 0 → 123 ∷ (label_text m ++ 125 ∷ []) ≡ labels_text (ls ++ m ∷ [])
-opened_none [] m text e h = refl
-opened_none (l ∷ ls) m text e h = absurd (omega (arith, h, ap length e))
 
 pub pushed_open : (ls : List Pair) (m : Pair) (text front : List ℕ) (b : ℕ) (old mid new : List ℕ) → text ≡ labels_text ls → text ≡ front ++ b ∷ [] → mid ≡ old ++ front → new ≡ mid ++ 44 ∷ []
     → new ++ (label_text m ++ 125 ∷ []) ≡ old ++ labels_text (ls ++ m ∷ [])

@@ -38,10 +38,6 @@ pub no_end : (fits : List ℕ → Bool) (text : List ℕ) → some_end fits text
 no_end fits [] h = h
 no_end fits (byte ∷ text) h = (or_false (fits (byte ∷ text)) (some_end fits text) h).0
 
--- what doesn't fit the whole text fits an end if it fits an end of what is behind the first byte
-pub shorter_end : (fits : List ℕ → Bool) (byte : ℕ) (text : List ℕ) → fits (byte ∷ text) ≡ false → some_end fits (byte ∷ text) ≡ some_end fits text
-shorter_end fits byte text h = rw h refl
-
 -- the rest of a text stands to the rest of a pattern as the whole text to the whole pattern
 pub record Reached (pattern text rest left : List ℕ) : Type 0 where
   pub same : matches pattern text ≡ matches rest left
@@ -64,15 +60,6 @@ no_star_ends : (sign : ℕ) (rest left : List ℕ) → (sign == 42) ≡ false �
 no_star_ends sign rest left h =
     let e : matches (sign ∷ rest) ≡ byte_and (sign == 63) sign (matches rest) = λ i text. no_star sign rest text h i in
     ap (λ (f : List ℕ → Bool). some_end f left) e
-
-pub at_short : (pattern text rest : List ℕ) (sign : ℕ) → Reached pattern text (sign ∷ rest) [] → sign ≢ 42 → some_end (matches pattern) text ≡ false
-at_short pattern text rest sign r h = r.ends (no_star_ends sign rest [] (ne_eqb sign 42 h))
-
-pub at_other : (pattern text rest left : List ℕ) (sign byte : ℕ) → Reached pattern text (sign ∷ rest) (byte ∷ left) → sign ≢ 42 → sign ≢ 63 → sign ≢ byte → matches pattern text ≡ false
-at_other pattern text rest left sign byte r h k m =
-    let a : (sign == 63) ≡ false = ne_eqb sign 63 k in
-    let b : (sign == byte) ≡ false = ne_eqb sign byte m in
-    r.same ∙ (no_star sign rest (byte ∷ left) (ne_eqb sign 42 h) ∙ rw (a, b) refl)
 
 any_or_this : (sign byte : ℕ) → (sign ≡ 63) ⊎ (sign ≡ byte) → ((sign == 63) || (sign == byte)) ≡ true
 any_or_this sign byte (inl h) = let e : (sign == 63) ≡ true = eq-eqb sign 63 h in rw e refl

@@ -1,21 +1,19 @@
 -- Whether a stream resets, and by which demand it was made, whatever is done to it.
-use Rattle.std.proofs.Common.{◌≡◌, ℕ, Bool, true, false, cond, not, ◌&&◌, List, [], ◌∷◌, drop, map, Option, Some, None, Result, Ok, Err, is_none, refl, sym, ◌∙◌, ap, subst, OnOk, OnErr}
-use Rattle.std.specs.Bool.{beq}
-use Rattle.std.specs.List.{AllByRecursion}
+use Rattle.std.proofs.Common.{◌≡◌, ℕ, Bool, true, false, cond, not, ◌&&◌, List, [], ◌∷◌, drop, map, Option, Some, None, is_none, refl, sym, ◌∙◌, ap, subst}
 use Rattle.std.proofs.lemmas.Simd.{map-map}
 use Rattle.otel_common.specs.declared.attributes.KeyValue.{KeyValue}
 use Rattle.otel_data.specs.declared.numbers.NumberValue.{NumberValue}
 use Rattle.otel_stream.specs.declared.observation.Observed.{Observed}
 use Rattle.otel_model_stream.specs.Events.{Event, held_by}
 use Rattle.otel_model_stream.specs.Sets.{AttributeSet, none_set}
-use Rattle.otel_aggregate.specs.Any.{is_signed_value, amount_of}
+use Rattle.otel_aggregate.specs.Any.{amount_of}
 use Rattle.otel_aggregate.specs.value_map.Contents.{is_next_placed, next_of}
 use Rattle.otel_model.specs.Calls.{is_observable}
-use Rattle.otel_model.specs.Demands.{Demand}
+use Rattle.otel_model.specs.Demands.{Demand, ReaderAnswers}
 use Rattle.otel_model.specs.Sent.{set_for}
-use Rattle.otel_model.specs.Streams.{is_drained}
+use Rattle.otel_model.specs.Streams.{is_delta, is_drained}
 use Rattle.opentelemetry_sdk.specs.pipeline.Observations.{observed_all, observed_in, observing_numbers}
-use Rattle.opentelemetry_sdk.specs.pipeline.Pipelines.{all_without_pending}
+use Rattle.opentelemetry_sdk.specs.pipeline.Pipelines.{AreAnswered, all_without_pending}
 use Rattle.opentelemetry_sdk.specs.declared.pipeline.change.Change.{Change}
 use Rattle.opentelemetry_sdk.specs.declared.pipeline.change.Change.TheVariants as change
 use Rattle.opentelemetry_sdk.specs.pipeline.Streams.{StreamContents, bound_by, committed_by, contents_after, contents_after_commit, contents_after_record, contents_with_next, takes, with_event, with_record, without_pending}
@@ -57,12 +55,7 @@ changes (change.Bind h) k = kept-if (not (is_observable k.stream.demand.identity
 changes (change.Unbind h) k = kept-if (is_drained k.stream.demand) k (with_event (Event.Unbind h) k) k refl refl
 
 pub records : (value : NumberValue) (l : List KeyValue) → KeepsAnswer (contents_after_record value l)
-records value l k = kept-if (beq (is_signed_value value) k.stream.demand.identity.signed) (with_record (set_for k.stream.demand l) (amount_of value) k) k k refl refl
-
--- also if it is refused
-pub records-either : {T E : Type 0} (value : NumberValue) (l : List KeyValue) (k m : StreamContents) (r : Result T E) → OnOk r (m ≡ contents_after_record value l k) → OnErr r (without_pending m ≡ without_pending k) → answer_of m ≡ answer_of k
-records-either value l k m (Ok t) is same = ap answer_of is ∙ records value l k
-records-either value l k m (Err e) is same = ap answer_of same
+records value l k = kept-if (takes value k) (with_record (set_for k.stream.demand l) (amount_of value) k) k k refl refl
 
 -- ======== what is done to streams ========
 pub answers-settled : (a b : List StreamContents) → all_without_pending a ≡ all_without_pending b → map answer_of a ≡ map answer_of b
@@ -72,14 +65,10 @@ pub answers-observed : (feeds : List (List ℕ)) (os : List Observed) (ks : List
 answers-observed feeds [] ks = refl
 answers-observed feeds (o ∷ os) ks = answers-observed feeds os (observed_in feeds ks o) ∙ unseen-each answer_of (contents_after_record o.value o.attributes) (records o.value o.attributes) (observing_numbers feeds o) ks
 
--- ======== what is read off both ========
-abbrev pub OfAnswer : (Bool → Demand → Type 0) → List StreamContents → Type 0
-OfAnswer P ks = AllByRecursion (λ (k : StreamContents). P k.resets k.stream.demand) ks
-
-module _ (P : Bool → Demand → Type 0) where
-  pub answered-same : (new old : List StreamContents) → map answer_of new ≡ map answer_of old → OfAnswer P old → OfAnswer P new
-  answered-same [] old e all = tt
-  answered-same (a ∷ new) [] e all = absurd (cc)
-  answered-same (a ∷ new) (b ∷ old) e all =
-      let parts : (answer_of b ≡ answer_of a) × (map answer_of new ≡ map answer_of old) = (cc, cc) in
-      (subst (λ (x : Bool × Demand). P x.0 x.1) parts.0 all.0, answered-same new old parts.1 all.1)
+-- the streams reset as the reader's answers say
+pub answered-same : (answers : ReaderAnswers) (new old : List StreamContents) → map answer_of new ≡ map answer_of old → AreAnswered answers old → AreAnswered answers new
+answered-same answers [] old e all = tt
+answered-same answers (a ∷ new) [] e all = absurd (cc)
+answered-same answers (a ∷ new) (b ∷ old) e all =
+    let parts : (answer_of b ≡ answer_of a) × (map answer_of new ≡ map answer_of old) = (cc, cc) in
+    (subst (λ (x : Bool × Demand). x.0 ≡ is_delta answers x.1) parts.0 all.0, answered-same answers new old parts.1 all.1)

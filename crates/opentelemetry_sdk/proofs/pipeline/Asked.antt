@@ -38,50 +38,26 @@ module _ (d : Demand) (a : AggregateContents) (is : IsAsked d a) where
       record { state = ap (λ (x : AggregateContents). x.state) now; signed = ap (λ (x : AggregateContents). x.is_signed) now; drains = ap (λ (x : AggregateContents). x.drains) now; unheld = unheld }
 
   -- ======== a record of a set ========
-  -- of the set that is prepared, or of the empty one
-  asked-if : (b : Bool) (o : Option AttributeSet) (v : Amount) → IsAsked d (cond b (taken_from o v a) a)
-  asked-if true None v = is
-  asked-if true (Some s) v = asked-still (taken_from (Some s) v) refl is.unheld
-  asked-if false o v = is
+  -- of the set that is prepared, if there is one
+  taken-if : (b : Bool) (o : Option AttributeSet) (v : Amount) → IsAsked d (cond b (taken_from o v a) a) × (contents_of d (cond b (taken_from o v a) a) ≡ cond b (committed_by o v held) held)
+  taken-if true None v = (is, refl)
+  taken-if true (Some s) v = (asked-still (taken_from (Some s) v) refl is.unheld, ap (λ x. contents_of d (taken_from (Some s) v x)) whole)
+  taken-if false o v = (is, refl)
 
-  taken-if : (b : Bool) (o : Option AttributeSet) (v : Amount) → contents_of d (cond b (taken_from o v a) a) ≡ cond b (committed_by o v held) held
-  taken-if true None v = refl
-  taken-if true (Some s) v = ap (λ x. contents_of d (taken_from (Some s) v x)) whole
-  taken-if false o v = refl
-
-  pub asked-taken : (new : AggregateContents) (value : NumberValue) (o : Option AttributeSet) → new ≡ cond (beq (is_signed_value value) a.is_signed) (taken_from o (amount_of value) a) a → IsAsked d new
-  asked-taken new value o e = subst (IsAsked d) (sym e) (asked-if (beq (is_signed_value value) a.is_signed) o (amount_of value))
-
-  pub taken : (new : AggregateContents) (value : NumberValue) (o : Option AttributeSet) → new ≡ cond (beq (is_signed_value value) a.is_signed) (taken_from o (amount_of value) a) a
-      → contents_of d new ≡ cond (beq (is_signed_value value) d.identity.signed) (committed_by o (amount_of value) held) held
-  taken new value o e =
-      ap (contents_of d) e
-      ∙ taken-if (beq (is_signed_value value) a.is_signed) o (amount_of value)
-      ∙ ap (λ s. cond (beq (is_signed_value value) s) (committed_by o (amount_of value) held) held) is.signed
-
-  -- which may leave prepared what was
-  asked-kept : (v : NumberValue) → IsAsked d (record (any_after_commit v a) { pending = a.pending })
-  asked-kept v =
-      let kept = asked-taken (any_after_commit v a) v (next_of a.pending) refl in
-      record { state = kept.state; signed = kept.signed; drains = kept.drains; unheld = kept.unheld }
-
-  taken-kept : (v : NumberValue) → contents_of d (record (any_after_commit v a) { pending = a.pending }) ≡ record (contents_after_commit v held) { pending = a.pending }
-  taken-kept v = ap (λ (h : StreamContents). record h { pending = a.pending }) (taken (any_after_commit v a) v (next_of a.pending) refl)
+  -- what was prepared stays so
+  kept : (v : NumberValue) → IsAsked d (record (any_after_commit v a) { pending = a.pending }) × (contents_of d (record (any_after_commit v a) { pending = a.pending }) ≡ record (contents_after_commit v held) { pending = a.pending })
+  kept v =
+      let t = taken-if (beq (is_signed_value v) a.is_signed) (next_of a.pending) (amount_of v) in (
+        record { state = t.0.state; signed = t.0.signed; drains = t.0.drains; unheld = t.0.unheld },
+        ap (λ (h : StreamContents). record h { pending = a.pending }) (t.1 ∙ ap (λ s. cond (beq (is_signed_value v) s) (committed_by (next_of a.pending) (amount_of v) held) held) is.signed),
+      )
 
   -- ======== a record through a handle ========
-  asked-used : (b : Bool) (o : Option AttributeSet) (v : Amount) → IsAsked d (cond b (used o v a) a)
-  asked-used true None v = asked-still (used None v) refl is.unheld
-  asked-used true (Some g) v = asked-still (used (Some g) v) refl is.unheld
-  asked-used false o v = is
-
   -- with what the stream has of the handle
   used-if : (h : ℕ) (b : Bool) (o : Option AttributeSet) (v : Amount) → held_by h a.live ≡ o → contents_of d (cond b (used o v a) a) ≡ cond b (with_event (Event.RecordBound h v) held) held
   used-if h true None v e = rw e refl
   used-if h true (Some g) v e = rw e (ap (λ x. contents_of d (used (Some g) v x)) whole)
   used-if h false o v e = refl
-
-  pub asked-updated : (new : AggregateContents) (h : ℕ) (value : NumberValue) → new ≡ any_after_update h value a → IsAsked d new
-  asked-updated new h value e = subst (IsAsked d) (sym e) (asked-used (takes_bound value a) (held_by h a.live) (amount_of value))
 
   pub updated : (new : AggregateContents) (h place : ℕ) (value : NumberValue) → new ≡ any_after_update h value a → contents_of d new ≡ contents_after (change.Held h place value) held
   updated new h place value e =
@@ -106,30 +82,21 @@ module _ (d : Demand) (a : AggregateContents) (is : IsAsked d a) where
 
 -- ======== records of several values ========
 module _ (d : Demand) where
-  asked-with : (vs : List NumberValue) (a : AggregateContents) → IsAsked d a → IsAsked d (any_with_commits vs a)
-  asked-with [] a is = is
-  asked-with (v ∷ vs) a is = asked-with vs (record (any_after_commit v a) { pending = a.pending }) (asked-kept d a is v)
+  all-kept : (vs : List NumberValue) (a : AggregateContents) → IsAsked d a → IsAsked d (any_with_commits vs a) × (contents_of d (any_with_commits vs a) ≡ contents_with_next vs (contents_of d a))
+  all-kept [] a is = (is, refl)
+  all-kept (v ∷ vs) a is =
+      let one = kept d a is v in
+      let rest = all-kept vs (record (any_after_commit v a) { pending = a.pending }) one.0 in
+      (rest.0, rest.1 ∙ ap (contents_with_next vs) one.1)
 
-  with-commits : (vs : List NumberValue) (a : AggregateContents) → IsAsked d a → contents_of d (any_with_commits vs a) ≡ contents_with_next vs (contents_of d a)
-  with-commits [] a is = refl
-  with-commits (v ∷ vs) a is = with-commits vs (record (any_after_commit v a) { pending = a.pending }) (asked-kept d a is v) ∙ ap (contents_with_next vs) (taken-kept d a is v)
-
-  module _ (vs : List NumberValue) (a new : AggregateContents) (is : IsAsked d a) (idle : is_next_placed a.pending a.state.map_state.table.entries ≡ false → new ≡ a) (made : is_next_placed a.pending a.state.map_state.table.entries ≡ true → new ≡ any_after_commits vs a) where
-    pub asked-next : IsAsked d new
-    asked-next = by (is_next_placed a.pending a.state.map_state.table.entries) refl
-      where
-        by : (b : Bool) → is_next_placed a.pending a.state.map_state.table.entries ≡ b → IsAsked d new
-        by true e = let kept = asked-with vs a is in subst (IsAsked d) (sym (made e)) (record { state = kept.state; signed = kept.signed; drains = kept.drains; unheld = kept.unheld })
-        by false e = subst (IsAsked d) (sym (idle e)) is
-
-    pub taken-next : contents_of d new ≡ contents_after_next vs (contents_of d a)
-    taken-next = by (is_next_placed a.pending a.state.map_state.table.entries) refl
-      where
-        by : (b : Bool) → is_next_placed a.pending a.state.map_state.table.entries ≡ b → contents_of d new ≡ contents_after_next vs (contents_of d a)
-        by true e =
-            ap (contents_of d) (made e)
-            ∙ ap (λ (h : StreamContents). record h { pending = drop 1 a.pending }) (with-commits vs a is)
-            ∙ sym (ap (λ b. cond b (record (contents_with_next vs (contents_of d a)) { pending = drop 1 a.pending }) (contents_of d a)) e)
-        by false e =
-            ap (contents_of d) (idle e)
-            ∙ sym (ap (λ b. cond b (record (contents_with_next vs (contents_of d a)) { pending = drop 1 a.pending }) (contents_of d a)) e)
+  pub taken-next : (vs : List NumberValue) (a new : AggregateContents) → IsAsked d a → (is_next_placed a.pending a.state.map_state.table.entries ≡ false → new ≡ a) → (is_next_placed a.pending a.state.map_state.table.entries ≡ true → new ≡ any_after_commits vs a)
+      → IsAsked d new × (contents_of d new ≡ contents_after_next vs (contents_of d a))
+  taken-next vs a new is idle made = by (is_next_placed a.pending a.state.map_state.table.entries) refl
+    where
+      by : (b : Bool) → is_next_placed a.pending a.state.map_state.table.entries ≡ b → IsAsked d new × (contents_of d new ≡ cond b (record (contents_with_next vs (contents_of d a)) { pending = drop 1 a.pending }) (contents_of d a))
+      by true e =
+          let all = all-kept vs a is in (
+            subst (IsAsked d) (sym (made e)) (record { state = all.0.state; signed = all.0.signed; drains = all.0.drains; unheld = all.0.unheld }),
+            ap (contents_of d) (made e) ∙ ap (λ (h : StreamContents). record h { pending = drop 1 a.pending }) all.1,
+          )
+      by false e = (subst (IsAsked d) (sym (idle e)) is, ap (contents_of d) (idle e))

@@ -1,8 +1,9 @@
 -- Which of a reader's streams an identity has.
-use Rattle.std.proofs.Common.{◌≡◌, ℕ, zero, suc, ◌+◌, ◌<◌, Bool, true, false, cond, not, ◌||◌, List, [], ◌∷◌, length, get_or, Some, None, slice_get, refl, sym, ◌∙◌, ap, subst, arith, option_map, is_some, nat_lt, position}
+use Rattle.std.proofs.Common.{◌≡◌, ℕ, zero, suc, ◌+◌, Bool, true, false, cond, not, ◌||◌, List, [], ◌∷◌, length, get_or, Some, None, slice_get, refl, sym, ◌∙◌, ap, arith, option_map, is_some, nat_lt, position}
 use Rattle.std.specs.List.{list_any, position_or_len, IsDistinct}
 use Rattle.std.proofs.lemmas.Bool.Decides.{nat_tests}
-use Rattle.std.proofs.lemmas.List.Sums.{passes_at_first}
+use Rattle.std.proofs.lemmas.List.Quantifiers.{position-Some}
+use Rattle.std.proofs.lemmas.List.Sums.{position_or_len_is}
 use Rattle.std.proofs.lemmas.Option.{slice_get-get_or, slice_get-map}
 use Rattle.otel_model.specs.Demands as model
 use Rattle.otel_model.specs.Demands.{Identity, identity_eq}
@@ -26,14 +27,9 @@ any-position p (x ∷ xs) = by (p x) (any-position p xs)
 
 -- what is found passes
 pub position-at : {X : Type 0} (p : X → Bool) (xs : List X) (n : ℕ) (d : X) → position p xs ≡ Some n → (n ≡ position_or_len p xs) × (slice_get xs n ≡ Some (get_or xs n d)) × (p (get_or xs n d) ≡ true)
-position-at p xs n d e = by (nat_lt (position_or_len p xs) (length xs)) refl e
-  where
-    by : (b : Bool) → nat_lt (position_or_len p xs) (length xs) ≡ b → cond b (Some (position_or_len p xs)) None ≡ Some n → (n ≡ position_or_len p xs) × (slice_get xs n ≡ Some (get_or xs n d)) × (p (get_or xs n d) ≡ true)
-    by true h q =
-        let is : position_or_len p xs ≡ n = some_is _ _ q in
-        let within : position_or_len p xs < length xs = grind (arith, nat_tests, h) in
-        subst (λ k. (k ≡ position_or_len p xs) × (slice_get xs k ≡ Some (get_or xs k d)) × (p (get_or xs k d) ≡ true)) is (refl, slice_get-get_or xs (position_or_len p xs) d within, passes_at_first p xs d within)
-    by false h q = absurd (cc)
+position-at p xs n d e =
+    let first = position-Some p xs n d e in
+    (sym (position_or_len_is p xs n d (omega (arith, first.0)) first.2 (λ _. first.1)), slice_get-get_or xs n d first.0, first.1)
 
 -- ======== what is known ========
 pub known : (x : Identity) (ks : List StreamContents) → model.is_known (fates_of ks) x ≡ is_some (stream_number x (stream_identities ks))

@@ -1,67 +1,38 @@
 -- Collections that are made of the streams are the model's.
-use Rattle.std.proofs.Common.{◌≡◌, ℕ, Bool, true, false, cond, List, [], ◌∷◌, map, filter, refl, sym, ◌∙◌, ap}
+use Rattle.std.proofs.Common.{◌≡◌, ℕ, List, [], ◌∷◌, map, filter, refl, sym, ◌∙◌, ap}
 use Rattle.std.proofs.lemmas.Simd.{map-map}
 use Rattle.otel_common.specs.declared.resource.Resource.{Resource}
-use Rattle.otel_common.specs.declared.metrics.Temporality.TheVariants as temporality
 use Rattle.otel_common.specs.declared.scopes.InstrumentationScope.{InstrumentationScope}
-use Rattle.otel_data.specs.declared.collections.Metric.{Metric}
 use Rattle.otel_data.specs.declared.collections.ResourceMetrics.{ResourceMetrics}
+use Rattle.otel_aggregate.proofs.All.{all-filter, filter-map}
 use Rattle.otel_model.specs.Calls as model
-use Rattle.otel_model.specs.Collections.{metric, aggregated_metrics, in_scope, has_metrics, ScopedMetric}
+use Rattle.otel_model.specs.Collections.{metric, in_scope, has_metrics, ScopedMetric}
 use Rattle.otel_model.specs.Demands.{Identity, ReaderAnswers}
 use Rattle.otel_model.specs.Machine.{part_after_call, points_at, stream_after}
 use Rattle.otel_model.specs.State.{Stream}
 use Rattle.otel_model.specs.Streams.{is_delta}
 use Rattle.opentelemetry_sdk.specs.pipeline.Collections.{scoped_metric, all_scoped, scopes_shown, IsCollectedFrom}
-use Rattle.opentelemetry_sdk.specs.pipeline.Pipelines.{part_by, fates_of, named_identities, is_streamed, model_streams, AreAnswered, all_without_pending, all_after_collection}
-use Rattle.opentelemetry_sdk.specs.pipeline.Streams.{StreamContents, shown_metric, shown_values, without_pending, contents_after_collection}
-use Rattle.opentelemetry_sdk.proofs.pipeline.PipelineLemmas.{feeds-same, filter-map, settled-part}
+use Rattle.opentelemetry_sdk.specs.pipeline.Pipelines.{part_by, fates_of, named_identities, is_streamed, AreAnswered, all_without_pending, all_after_collection}
+use Rattle.opentelemetry_sdk.specs.pipeline.Streams.{StreamContents, without_pending, contents_after_collection}
+use Rattle.opentelemetry_sdk.proofs.pipeline.PipelineLemmas.{feeds-same, settled-part}
 
 module _ (answers : ReaderAnswers) (feeds : List (List Identity)) (now : ℕ) where
   -- ======== what is shown ========
-  -- the metric of a stream that is delta or not
-  abbrev metric_when : StreamContents → Bool → Metric
-  metric_when k delta = record {
-    name = k.stream.demand.spelling;
-    description = k.stream.demand.identity.description;
-    unit = k.stream.demand.identity.unit;
-    content = aggregated_metrics k.stream.demand.identity.signed (cond delta temporality.Delta temporality.Cumulative) k.stream.demand.identity.kind k.stream.demand.aggregation k.stream.start now
-        (shown_values (record { stream = k.stream; resets = delta; pending = k.pending; room = k.room }));
-  }
-
-  metric-is : (k : StreamContents) → k.resets ≡ is_delta answers k.stream.demand
-      → metric answers now k.stream.start k.stream.reported k.stream.demand (points_at answers feeds [] k.stream) ≡ shown_metric now k
-  metric-is k is = ap (metric_when k) (sym is)
-
   abbrev scoped_by : Stream → ScopedMetric
   scoped_by q = (q.demand.identity.scope, metric answers now q.start q.reported q.demand (points_at answers feeds [] q))
 
-  metrics_are : (ks : List StreamContents) → AreAnswered answers ks → map scoped_by (model_streams ks) ≡ all_scoped now ks
+  metrics_are : (ks : List StreamContents) → AreAnswered answers ks → map scoped_by (map (λ (h : StreamContents). h.stream) ks) ≡ map (scoped_metric now) ks
   metrics_are [] all = refl
-  metrics_are (k ∷ ks) all = by (is_streamed k) (metrics_are ks all.1)
-    where
-      by : (b : Bool) → map scoped_by (model_streams ks) ≡ all_scoped now ks
-          → map scoped_by (map (λ (h : StreamContents). h.stream) (cond b (k ∷ filter is_streamed ks) (filter is_streamed ks))) ≡ map (scoped_metric now) (cond b (k ∷ filter is_streamed ks) (filter is_streamed ks))
-      by true rest = λ i. (k.stream.demand.identity.scope, metric-is k all.0 i) ∷ rest i
-      by false rest = rest
+  metrics_are (k ∷ ks) all = λ i. scoped_metric now (record k { resets = sym all.0 i }) ∷ metrics_are ks all.1 i
 
   -- ======== what it leaves ========
-  stream-is : (next r : ℕ) (k : StreamContents) → k.resets ≡ is_delta answers k.stream.demand → stream_after answers feeds next (model.Call.Collect r now []) k.stream ≡ (contents_after_collection now k).stream
-  stream-is next r k is = ap (λ b. (contents_after_collection now (record { stream = k.stream; resets = b; pending = k.pending; room = k.room })).stream) (sym is)
-
-  streams-finished : (next r : ℕ) (ks : List StreamContents) → AreAnswered answers ks → map (stream_after answers feeds next (model.Call.Collect r now [])) (model_streams ks) ≡ model_streams (all_after_collection now ks)
+  streams-finished : (next r : ℕ) (ks : List StreamContents) → AreAnswered answers ks → map (stream_after answers feeds next (model.Call.Collect r now [])) (map (λ (h : StreamContents). h.stream) ks) ≡ map (λ (h : StreamContents). h.stream) (all_after_collection now ks)
   streams-finished next r [] all = refl
-  streams-finished next r (k ∷ ks) all = by (is_streamed k) (streams-finished next r ks all.1)
-    where
-      by : (b : Bool) → map (stream_after answers feeds next (model.Call.Collect r now [])) (model_streams ks) ≡ model_streams (all_after_collection now ks)
-          → map (stream_after answers feeds next (model.Call.Collect r now [])) (map (λ (h : StreamContents). h.stream) (cond b (k ∷ filter is_streamed ks) (filter is_streamed ks)))
-          ≡ map (λ (h : StreamContents). h.stream) (cond b (contents_after_collection now k ∷ filter is_streamed (all_after_collection now ks)) (filter is_streamed (all_after_collection now ks)))
-      by true rest = λ i. stream-is next r k all.0 i ∷ rest i
-      by false rest = rest
+  streams-finished next r (k ∷ ks) all = λ i. (contents_after_collection now (record k { resets = sym all.0 i })).stream ∷ streams-finished next r ks all.1 i
 
 -- which records are prepared makes no difference
 filter-settled : (now : ℕ) (ks : List StreamContents) → all_scoped now (all_without_pending ks) ≡ all_scoped now ks
-filter-settled now ks = ap (map (scoped_metric now)) (filter-map is_streamed without_pending ks) ∙ map-map (scoped_metric now) without_pending (filter is_streamed ks)
+filter-settled now ks = ap (map (scoped_metric now)) (filter-map without_pending is_streamed ks) ∙ map-map (scoped_metric now) without_pending (filter is_streamed ks)
 
 pub shown-settled : (now : ℕ) (meters : List InstrumentationScope) (a b : List StreamContents) → all_without_pending a ≡ all_without_pending b → scopes_shown now a meters ≡ scopes_shown now b meters
 shown-settled now meters a b e =
@@ -81,7 +52,7 @@ pub collected-is : (resource : Resource) (meters : List InstrumentationScope) (n
     → c.resource ≡ resource → c.scope_metrics ≡ scopes_shown now ks meters → IsCollectedFrom resource meters now [] (part_by answers ks feeds) c
 collected-is resource meters now answers ks feeds c all r e s to_resource to_meters = λ i. record {
   resource = (r ∙ sym to_resource) i;
-  scope_metrics = (e ∙ λ j. filter has_metrics (map (in_scope (sym (metrics_are answers (map (named_identities ks) feeds) now ks all) j)) (sym to_meters j))) i;
+  scope_metrics = (e ∙ λ j. filter has_metrics (map (in_scope (sym (metrics_are answers (map (named_identities ks) feeds) now (filter is_streamed ks) (all-filter (λ (h : StreamContents). h.resets ≡ is_delta answers h.stream.demand) is_streamed ks all)) j)) (sym to_meters j))) i;
 }
 
 -- a reader's part after its collection
@@ -93,6 +64,7 @@ part-finished answers next r now old new feeds all e =
     ∙ λ i. record {
       answers = answers;
       fates = same i;
-      streams = sym (streams-finished answers (map (named_identities old) feeds) now next r old all) i;
+      streams = (ap (map (λ (h : StreamContents). h.stream)) (filter-map (contents_after_collection now) is_streamed old)
+          ∙ sym (streams-finished answers (map (named_identities old) feeds) now next r (filter is_streamed old) (all-filter (λ (h : StreamContents). h.resets ≡ is_delta answers h.stream.demand) is_streamed old all))) i;
       feeds = feeds-same (all_after_collection now old) old same feeds i;
     }

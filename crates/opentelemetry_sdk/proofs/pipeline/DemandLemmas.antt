@@ -1,7 +1,7 @@
 -- What holds of the demands of an instrument.
-use Rattle.std.proofs.Common.{◌≡◌, ℕ, ℤ, Bool, true, false, cond, ◌&&◌, List, Option, Some, None, refl, IfSome}
+use Rattle.std.proofs.Common.{◌≡◌, ℕ, ℤ, true, ◌&&◌, List, Option, Some, None, refl, IfSome}
 use Rattle.std.specs.Option.{option_or, unwrap_or}
-use Rattle.std.proofs.lemmas.Bool.{and_parts}
+use Rattle.std.proofs.lemmas.Bool.{and_parts, cond_both}
 use Rattle.otel_common.specs.declared.metrics.Aggregation.{Aggregation}
 use Rattle.otel_common.specs.declared.metrics.Aggregation.TheVariants.{Default, ExplicitBucketHistogram}
 use Rattle.otel_common.specs.declared.scopes.InstrumentationScope.{InstrumentationScope}
@@ -31,14 +31,10 @@ kind_default-good Counter = refl
 kind_default-good kind = refl
 
 -- what can be used is good, and so is what stands in for it
-chosen-good : (kind : InstrumentKind) (b : Bool) (a : Aggregation) → (is_valid a && fits kind a) ≡ b → (is_valid (cond b a (kind_default kind)) && fits kind (cond b a (kind_default kind))) ≡ true
-chosen-good kind true a e = e
-chosen-good kind false a e = kind_default-good kind
-
 default_from-good : (kind : InstrumentKind) (wanted : Option Aggregation) → (is_valid (default_from kind wanted) && fits kind (default_from kind wanted)) ≡ true
 default_from-good kind None = kind_default-good kind
 default_from-good kind (Some Default) = kind_default-good kind
-default_from-good kind (Some a) = chosen-good kind (is_valid a && fits kind a) a refl
+default_from-good kind (Some a) = cond_both (is_valid a && fits kind a) a (kind_default kind) (λ (x : Aggregation). (is_valid x && fits kind x) ≡ true) (λ t. t) (λ _. kind_default-good kind)
 
 pub default_from-parts : (kind : InstrumentKind) (wanted : Option Aggregation) → (is_valid (default_from kind wanted) ≡ true) × (fits kind (default_from kind wanted) ≡ true)
 default_from-parts kind wanted = and_parts (is_valid (default_from kind wanted)) (fits kind (default_from kind wanted)) (default_from-good kind wanted)

@@ -1,8 +1,8 @@
 -- Streams and their drafts.
-use Rattle.std.proofs.Common.{◌≡◌, ℕ, zero, suc, ◌+◌, ◌<◌, Bool, true, false, cond, List, [], ◌∷◌, ◌++◌, length, take, drop, set, get_or, replicate, Option, Some, None, option_map, slice_get, Result, refl, sym, ◌∙◌, ap, subst, arith}
+use Rattle.std.proofs.Common.{◌≡◌, ℕ, zero, suc, ◌+◌, ◌<◌, true, List, [], ◌∷◌, ◌++◌, length, take, drop, set, get_or, replicate, Option, Some, None, option_map, slice_get, Result, refl, sym, ◌∙◌, ap, subst, arith}
 use Rattle.std.specs.Prelude.{All, IfSome, OnOk, OnErr}
-use Rattle.std.proofs.lemmas.List.{take_more}
-use Rattle.std.proofs.lemmas.List.Sums.{fold-append}
+use Rattle.std.proofs.lemmas.Bool.{cond-false, cond-true, cond_both}
+use Rattle.std.proofs.lemmas.List.Sums.{fold_more}
 use Rattle.otel_common.specs.declared.attributes.KeyValue.{KeyValue}
 use Rattle.otel_data.specs.declared.numbers.NumberValue.{NumberValue}
 use Rattle.otel_stream.specs.declared.observation.Observed.{Observed}
@@ -12,10 +12,10 @@ use Rattle.otel_model.specs.Machine.{changed_at}
 use Rattle.otel_model.specs.Sent.{set_for}
 use Rattle.opentelemetry_sdk.specs.pipeline.Observations.{AreDraftsOf, IsDraftOf, IsObservable, draft_of, drafted, drafted_all, observed_all, observed_in, observing_numbers}
 use Rattle.opentelemetry_sdk.specs.pipeline.Pipelines.{AreNumbers, all_without_pending, changed_each}
-use Rattle.opentelemetry_sdk.specs.pipeline.Streams.{StreamContents, contents_after_record, with_record, without_pending}
+use Rattle.opentelemetry_sdk.specs.pipeline.Streams.{StreamContents, contents_after_record, takes, with_record, without_pending}
 use Rattle.opentelemetry_sdk.proofs.pipeline.Outcomes.{either}
-use Rattle.opentelemetry_sdk.proofs.pipeline.Records.{fed-numbers, fits}
-use Rattle.opentelemetry_sdk.proofs.pipeline.Writes.{length-seen}
+use Rattle.opentelemetry_sdk.proofs.pipeline.Records.{fed-numbers}
+use Rattle.opentelemetry_sdk.proofs.pipeline.Writes.{length-seen, seen-each}
 
 abbrev Drafts : Type 0
 Drafts = List (Option DraftContents)
@@ -50,33 +50,25 @@ fits-kept o k m is rest seen = subst (λ q. Fits q m) (sym is) (subst (IsDraftOf
 
 -- ======== an observation ========
 module _ (value : NumberValue) (l : List KeyValue) where
+  abbrev taken : StreamContents → StreamContents
+  taken k = with_record (set_for k.stream.demand l) (amount_of value) k
+
   abbrev observed : StreamContents → StreamContents
   observed k = contents_after_record value l k
-
-  unseen-if : (b : Bool) (d : DraftContents) (k : StreamContents) → drafted (Some d) (cond b (with_record (set_for k.stream.demand l) (amount_of value) k) k) ≡ drafted (Some d) k
-  unseen-if true d k = refl
-  unseen-if false d k = refl
 
   -- where k entered its draft and took the observation in, or was refused, k has not changed but for what its draft has
   pub drafted-rest : {T E : Type 0} (r : Result T E) (o : Option DraftContents) (k s m : StreamContents) → without_pending s ≡ drafted o k → OnOk r (m ≡ observed s) → OnErr r (without_pending m ≡ without_pending s) → drafted (Some (draft_of k)) m ≡ without_pending k
   drafted-rest r o k s m e =
-      either r (λ ok. ap (drafted (Some (draft_of k))) ok ∙ unseen-if (fits value s.stream.demand) (draft_of k) s ∙ ap (drafted (Some (draft_of k))) e) (λ err. ap (drafted (Some (draft_of k))) (err ∙ e))
-
-  settled-if : (b : Bool) (k : StreamContents) → without_pending (cond b (with_record (set_for k.stream.demand l) (amount_of value) k) k) ≡ cond b (with_record (set_for k.stream.demand l) (amount_of value) (without_pending k)) (without_pending k)
-  settled-if true k = refl
-  settled-if false k = refl
+      either r
+      (λ ok. ap (drafted (Some (draft_of k))) ok
+      ∙ cond_both (takes value s) (taken s) s (λ (x : StreamContents). drafted (Some (draft_of k)) x ≡ drafted (Some (draft_of k)) s) (λ _. refl) (λ _. refl)
+      ∙ ap (drafted (Some (draft_of k))) e)
+      (λ err. ap (drafted (Some (draft_of k))) (err ∙ e))
 
   pub observed-settled : (k : StreamContents) → without_pending (observed k) ≡ observed (without_pending k)
-  observed-settled k = settled-if (fits value k.stream.demand) k
-
-  settled-at : (n : ℕ) (ks : List StreamContents) → all_without_pending (changed_at n observed ks) ≡ changed_at n observed (all_without_pending ks)
-  settled-at n [] = refl
-  settled-at zero (k ∷ ks) = ap (λ m. m ∷ all_without_pending ks) (observed-settled k)
-  settled-at (suc n) (k ∷ ks) = ap (λ ms. without_pending k ∷ ms) (settled-at n ks)
-
-  settled-each : (ns : List ℕ) (ks : List StreamContents) → all_without_pending (changed_each observed ns ks) ≡ changed_each observed ns (all_without_pending ks)
-  settled-each [] ks = refl
-  settled-each (n ∷ ns) ks = settled-each ns (changed_at n observed ks) ∙ ap (changed_each observed ns) (settled-at n ks)
+  observed-settled k = cond_both (takes value k) (taken k) k (λ (x : StreamContents). without_pending x ≡ observed (without_pending k))
+      (λ t. sym (cond-true (takes value k) (taken (without_pending k)) (without_pending k) t))
+      (λ f. sym (cond-false (takes value k) (taken (without_pending k)) (without_pending k) f))
 
 -- one observation more
 pub observed-more : (feeds : List (List ℕ)) (os : List Observed) (i : ℕ) (o : Observed) (ns : List ℕ) (old mid new : List StreamContents) → i < length os → o ≡ get_or os i o → ns ≡ observing_numbers feeds o
@@ -86,10 +78,10 @@ observed-more feeds os i o ns old mid new h at fed before made =
     let so_far : List StreamContents = observed_all feeds (take i os) old in
     made
     ∙ ap (changed_each (contents_after_record o.value o.attributes) ns) before
-    ∙ sym (settled-each o.value o.attributes ns so_far)
+    ∙ sym (seen-each without_pending (contents_after_record o.value o.attributes) (contents_after_record o.value o.attributes) (observed-settled o.value o.attributes) ns so_far)
     ∙ ap (λ l. all_without_pending (changed_each (contents_after_record o.value o.attributes) l so_far)) fed
     ∙ ap (λ p. all_without_pending (observed_in feeds so_far p)) at
-    ∙ ap all_without_pending (sym (ap (λ l. observed_all feeds l old) (take_more os i o h) ∙ fold-append (observed_in feeds) old (take i os) (get_or os i o ∷ [])))
+    ∙ ap all_without_pending (sym (fold_more (observed_in feeds) old os i o h))
 
 pub observable-same : (a b : List StreamContents) (n : ℕ) → all_without_pending a ≡ all_without_pending b → IsObservable a n → IsObservable b n
 observable-same a [] n e is k at = absurd (cc)
@@ -112,7 +104,7 @@ none-fits (suc n) (k ∷ ks) e = (tt, none-fits n ks (omega arith))
 -- a stream that an instrument feeds
 pub fed-inside : (old now : List StreamContents) (feeds : List (List ℕ)) (instrument i : ℕ) (ns : List ℕ) → All (AreNumbers old) feeds → ns ≡ or_else (slice_get feeds instrument) [] → i < length ns → all_without_pending now ≡ all_without_pending old → get_or ns i 0 < length now
 fed-inside old now feeds instrument i ns numbers fed h same =
-    omega (arith, subst (AreNumbers old) (sym fed) (fed-numbers old feeds instrument numbers) i 0 h, length-seen without_pending now old same)
+    omega (arith, subst (AreNumbers old) (sym fed) (fed-numbers old feeds instrument numbers) i 0 h, length-seen without_pending without_pending now old same)
 
 pub drafts-few : (ds : Drafts) (ks : List StreamContents) (n : ℕ) → n < length ds → AreDraftsOf ds ks → n < length ks
 drafts-few [] ks n h all = absurd (omega arith)

@@ -1,6 +1,7 @@
 -- What is done to handles stream by stream is the model's call.
-use Rattle.std.proofs.Common.{◌≡◌, ℕ, zero, suc, ◌+◌, ◌<◌, ◌==◌, length, eq-eqb, Bool, true, false, cond, not, ◌&&◌, ◌||◌, List, [], ◌∷◌, map, Some, None, is_none, slice_get, refl, sym, ◌∙◌, ap, subst, arith, true≢false, get_or}
+use Rattle.std.proofs.Common.{◌≡◌, ℕ, zero, suc, ◌+◌, Bool, true, false, cond, not, ◌&&◌, List, [], ◌∷◌, map, filter, Some, None, is_none, IfSome, slice_get, refl, sym, ◌∙◌, ap, subst, true≢false, get_or}
 use Rattle.std.specs.List.{AllByRecursion as EachOf}
+use Rattle.std.proofs.lemmas.Bool.{cond_both}
 use Rattle.otel_common.specs.declared.attributes.KeyValue.{KeyValue}
 use Rattle.otel_data.specs.declared.numbers.NumberValue.{NumberValue}
 use Rattle.otel_aggregate.specs.Any.{is_signed_value, amount_of}
@@ -12,10 +13,10 @@ use Rattle.otel_model_stream.specs.Folds.{empty_of, sample_of, wrap}
 use Rattle.otel_model_stream.specs.Machine.{hold, through, let_go}
 use Rattle.otel_model_stream.specs.Maps.{MapState}
 use Rattle.otel_model_stream.specs.Sets.{AttributeSet}
-use Rattle.otel_model_stream.specs.Totals.{has_number, size}
+use Rattle.otel_model_stream.specs.Totals.{size}
 use Rattle.otel_model.specs.Calls.{InstrumentKind, ObservableCounter, ObservableUpDownCounter, is_observable, Call, Bind, RecordBound, Unbind}
 use Rattle.otel_model.specs.Demands as model
-use Rattle.otel_model.specs.Machine.{stream_after, part_after_call, if_held}
+use Rattle.otel_model.specs.Machine.{part_after_call, if_held}
 use Rattle.otel_model.specs.Sent.{is_fed, set_for}
 use Rattle.otel_model.specs.State.{Stream}
 use Rattle.otel_model.specs.Streams.{aggregate_of, is_drained, observes_sums}
@@ -24,10 +25,11 @@ use Rattle.opentelemetry_sdk.specs.declared.pipeline.change.Change.{Change}
 use Rattle.opentelemetry_sdk.specs.declared.pipeline.change.Change.TheVariants as change
 use Rattle.opentelemetry_sdk.specs.pipeline.Handles.{FeedsSynchronous, AreObservableFor, IsNewAt, IsHeldByFed, StandsFor}
 use Rattle.opentelemetry_sdk.specs.pipeline.Observations.{AreObservableIn}
-use Rattle.opentelemetry_sdk.specs.pipeline.Pipelines.{Piped, IsLawful, IsReady, IsReadyFor, IsReadyIfThere, FeedsType, identity_of, is_streamed, model_streams, named_identities, number_of, part_of, part_changed_by, fed_by}
-use Rattle.opentelemetry_sdk.specs.pipeline.Streams.{StreamContents, used_for, with_event, bound_by, contents_after}
+use Rattle.opentelemetry_sdk.specs.pipeline.Pipelines.{Piped, IsLawful, IsReady, IsReadyFor, FeedsType, identity_of, is_streamed, model_streams, named_identities, number_of, part_of, part_changed_by, fed_by}
+use Rattle.opentelemetry_sdk.specs.pipeline.Streams.{StreamContents, used_for, with_event, bound_by, contents_after, takes}
 use Rattle.opentelemetry_sdk.proofs.pipeline.Answered.{changes}
-use Rattle.opentelemetry_sdk.proofs.pipeline.Records.{each-sent, fed-at, fits, none-sent, recorded-sent, there-at, typed-fits}
+use Rattle.opentelemetry_sdk.proofs.pipeline.Once.{number-there}
+use Rattle.opentelemetry_sdk.proofs.pipeline.Records.{each-sent, fed-at, none-sent, recorded-sent, there-at, typed-fits}
 
 -- ======== kinds ========
 drained-by : (kind : InstrumentKind) → is_observable kind ≡ false → observes_sums kind ≡ false
@@ -44,31 +46,15 @@ undrained d e = by _ (observes_sums d.identity.kind) (drained-by d.identity.kind
     by false b e = refl
 
 -- ======== what holds of a part's streams ========
-of-rest : (P : Stream → Type 0) (m : StreamContents) (ks : List StreamContents) → EachOf P (model_streams (m ∷ ks)) → EachOf P (model_streams ks)
-of-rest P m ks all = by (is_streamed m) refl all
-  where
-    by : (b : Bool) → is_streamed m ≡ b → EachOf P (model_streams (m ∷ ks)) → EachOf P (model_streams ks)
-    by true e all = (rw e at all).1
-    by false e all = rw e at all
-
 -- holds of a stream, by its number
 pub of-streamed : (P : Stream → Type 0) (ks : List StreamContents) → EachOf P (model_streams ks) → (i : ℕ) (k : StreamContents) → slice_get ks i ≡ Some k → is_streamed k ≡ true → P k.stream
 of-streamed P [] all i k at s = absurd (cc)
 of-streamed P (m ∷ ks) all zero k at s =
     let same : m ≡ k = some_is m k at in
     subst (λ (x : StreamContents). P x.stream) same (rw (ap is_streamed same ∙ s) at all).0
-of-streamed P (m ∷ ks) all (suc i) k at s = of-streamed P ks (of-rest P m ks all) i k at s
+of-streamed P (m ∷ ks) all (suc i) k at s = of-streamed P ks (cond_both (is_streamed m) (m ∷ filter is_streamed ks) (filter is_streamed ks) (λ (hs : List StreamContents). EachOf P (map (λ (h : StreamContents). h.stream) hs) → EachOf P (model_streams ks)) (λ _ all. all.1) (λ _ all. all) all) i k at s
 
 -- ======== observations ========
-number-there : (ns : List ℕ) (i d : ℕ) → i < length ns → has_number (get_or ns i d) ns ≡ true
-number-there [] i d h = absurd (omega arith)
-number-there (n ∷ ns) zero d h = ap (λ b. b || has_number n ns) (eq-eqb n n refl)
-number-there (n ∷ ns) (suc i) d h = by (n == get_or ns i d) (number-there ns i d (omega arith))
-  where
-    by : (a : Bool) → has_number (get_or ns i d) ns ≡ true → (a || has_number (get_or ns i d) ns) ≡ true
-    by true e = refl
-    by false e = e
-
 -- streams that take observations in are observable
 pub observable-in : (os : List Observed) (p : Piped) → IsLawful p → AreObservableFor os (part_of p) → AreObservableIn p.feeds os p.streams
 observable-in os p lawful all i d h j e g k at =
@@ -76,11 +62,6 @@ observable-in os p lawful all i d h j e g k at =
     all i d h (identity_of k) (fed-at p lawful n (get_or (fed_by n p) j e) k at ∙ number-there (fed_by n p) j e g)
 
 -- ======== binds ========
-bind-if : (answers : model.ReaderAnswers) (h n : ℕ) (l : List KeyValue) (feeds : List (List model.Identity)) (k : StreamContents) (b : Bool) → is_fed feeds n (identity_of k) ≡ b
-    → stream_after answers feeds h (Bind n l) k.stream ≡ (cond b (with_event (Event.Bind h (set_for k.stream.demand l)) k) k).stream
-bind-if answers h n l feeds k true e = rw e refl
-bind-if answers h n l feeds k false e = rw e refl
-
 -- a prepared bind is one of the set itself
 used-bind : (h : ℕ) (s : AttributeSet) (k : StreamContents) → (with_event (Event.Bind h (used_for s k)) k).stream ≡ (with_event (Event.Bind h s) k).stream
 used-bind h s k =
@@ -88,22 +69,18 @@ used-bind h s k =
     let m : MapState = record { limit = q.demand.limit; empty = empty_of (aggregate_of q.demand); table = q.machine.table } in
     λ i. record q { machine = hold h (used-own m s i) (record { table = (used-placed m s i).table; live = q.machine.live }) }
 
-abbrev can_bind : ℕ → StreamContents → Bool
-can_bind h k = not (is_observable k.stream.demand.identity.kind) && (k.room && is_none (held_by h k.stream.machine.live))
-
 pub bound-sent : (h n : ℕ) (l : List KeyValue) (p : Piped) → IsLawful p → IsReadyFor true n l p → FeedsSynchronous n (part_of p) → IsNewAt h (part_of p) → part_changed_by (contents_after (change.Bind h)) n p ≡ part_after_call h (Bind n l) (part_of p)
 bound-sent h n l p lawful ready sync new = each-sent p lawful h n (Bind n l) (contents_after (change.Bind h)) (changes (change.Bind h))
     (λ i k at s t fed.
-    let is : IsReady true l k = there-at (IsReadyIfThere true l) p.streams (fed_by n p) ready i k at t in
+    let is : IsReady true l k = there-at (λ o. IfSome o (IsReady true l)) p.streams (fed_by n p) ready i k at t in
     let kind : is_observable k.stream.demand.identity.kind ≡ false = sync (identity_of k) fed in
     let room : k.room ≡ true = is.room refl ∙ ap not (undrained k.stream.demand kind) in
     let away : held_by h k.stream.machine.live ≡ None = of-streamed (λ (q : Stream). held_by h q.machine.live ≡ None) p.streams new i k at s in
-    let can : can_bind h k ≡ true = λ j. not (kind j) && (room j && is_none (away j)) in
-    bind-if p.answers h n l (map (named_identities p.streams) p.feeds) k true fed
-    ∙ sym (used-bind h (set_for k.stream.demand l) k)
+    rw fed
+    (sym (used-bind h (set_for k.stream.demand l) k)
     ∙ ap (λ ss. (bound_by (next_of ss) h k).stream) (sym is.set)
-    ∙ ap (λ b. (cond b (bound_by (next_of k.pending) h k) k).stream) (sym can))
-    (λ i k at s fed. bind-if p.answers h n l (map (named_identities p.streams) p.feeds) k false fed)
+    ∙ λ j. (cond (not (sym kind j) && (sym room j && is_none (sym away j))) (bound_by (next_of k.pending) h k) k).stream))
+    (λ i k at s fed. rw fed refl)
 
 -- ======== all streams that an instrument feeds ========
 module _ (n h : ℕ) (p : Piped) (lawful : IsLawful p) (sync : FeedsSynchronous n (part_of p)) (held : IsHeldByFed n h (part_of p)) where
@@ -116,7 +93,7 @@ module _ (n h : ℕ) (p : Piped) (lawful : IsLawful p) (sync : FeedsSynchronous 
   update-sent next place value typed = each-sent p lawful next n (RecordBound h (number_of value)) (contents_after (change.Held h place value)) (changes (change.Held h place value))
       (λ i k at s t fed.
       let free : is_drained k.stream.demand ≡ false = undrained k.stream.demand (sync (identity_of k) fed) in
-      let fit : fits value k.stream.demand ≡ true = typed-fits n value (part_of p) k.stream.demand typed fed in
+      let fit : takes value k ≡ true = typed-fits n value (part_of p) k typed fed in
       λ j. (cond (not (sym free j) && sym fit j) (with_event (Event.RecordBound h (amount_of value)) k) k).stream)
       (λ i k at s fed.
       let q : Stream = k.stream in

@@ -1,16 +1,17 @@
 -- The test of identities is equality, whichever stands first.
-use Rattle.std.proofs.Common.{◌≡◌, ℕ, zero, suc, Bool, true, false, ◌&&◌, List, [], ◌∷◌, Some, slice_get, position, refl, sym, ◌∙◌, ap, option_map, true≢false, eq-eqb, bytes_eq}
+use Rattle.std.proofs.Common.{◌≡◌, ⊎_elim, ℕ, ◌<◌, Bool, true, ◌&&◌, List, Some, slice_get, position, refl, sym, ◌∙◌, ap, true≢false, eq-eqb, bytes_eq}
+use Rattle.std.proofs.lemmas.Bool.{cases_order}
+use Rattle.std.proofs.lemmas.Map.Keys.{apart_from_distinct}
 use Rattle.std.specs.Bool.{beq, Decides}
 use Rattle.std.specs.Cmp.{both_ways}
 use Rattle.std.specs.List.{IsDistinct}
 use Rattle.otel_common.specs.Scopes.{scope_eq, scope_eq-Decides}
 use Rattle.otel_common.specs.declared.scopes.InstrumentationScope.{InstrumentationScope}
 use Rattle.otel_model.specs.Calls.{InstrumentKind, kind_eq, kind_number}
-use Rattle.std.proofs.lemmas.Option.{slice_get-map}
+use Rattle.std.proofs.lemmas.Option.{get_or_from_slice_get, slice_get_within}
 use Rattle.otel_model.specs.Demands.{Identity, identity_eq}
-use Rattle.otel_model.proofs.Amounts.{each_at}
 use Rattle.otel_model.proofs.Gather.{kind_eq_true, identity_eq_true, identity_eq_self}
-use Rattle.otel_model.proofs.Single.{some_is}
+use Rattle.otel_model.proofs.Single.{get_map}
 use Rattle.opentelemetry_sdk.specs.pipeline.Pipelines.{identity_of, stream_identities}
 use Rattle.opentelemetry_sdk.specs.pipeline.Streams.{StreamContents}
 
@@ -32,22 +33,12 @@ module _ (same : InstrumentKind → InstrumentKind → Bool) (law : (x y : Instr
   abbrev pub test_of : Identity → Identity → Bool
   test_of x y = scope_eq x.scope y.scope && (same x.kind y.kind && (beq x.signed y.signed && (bytes_eq x.description y.description && (bytes_eq x.unit y.unit && bytes_eq x.name y.name))))
 
-  pub test-same : test_of ≡ identity_eq
-  test-same = λ i x y. scope_eq x.scope y.scope && (kind-same x.kind y.kind i && (beq x.signed y.signed && (bytes_eq x.description y.description && (bytes_eq x.unit y.unit && bytes_eq x.name y.name))))
-
   pub position-same : (x : Identity) (xs : List Identity) → position (test_of x) xs ≡ position (identity_eq x) xs
-  position-same x xs = ap (λ (t : Identity → Identity → Bool). position (t x) xs) test-same
+  position-same x xs = λ i. position (λ y. scope_eq x.scope y.scope && (kind-same x.kind y.kind i && (beq x.signed y.signed && (bytes_eq x.description y.description && (bytes_eq x.unit y.unit && bytes_eq x.name y.name))))) xs
 
-not_among : (x y : Identity) → x ≡ y → identity_eq x y ≡ false → ⊥
-not_among x y e other = true≢false (sym (ap (identity_eq x) (sym e) ∙ identity_eq_self x) ∙ other)
-
-apart_by : (xs : List Identity) → IsDistinct identity_eq xs → (i j : ℕ) (x y : Identity) → slice_get xs i ≡ Some x → slice_get xs j ≡ Some y → x ≡ y → i ≡ j
-unfolding IsDistinct
-apart_by [] distinct i j x y p q e = absurd (cc)
-apart_by (z ∷ xs) distinct zero zero x y p q e = refl
-apart_by (z ∷ xs) distinct zero (suc j) x y p q e = absurd (not_among z y (some_is z x p ∙ e) (each_at _ xs j y distinct.0 q))
-apart_by (z ∷ xs) distinct (suc i) zero x y p q e = absurd (not_among z x (some_is z y q ∙ sym e) (each_at _ xs i x distinct.0 p))
-apart_by (z ∷ xs) distinct (suc i) (suc j) x y p q e = ap suc (apart_by xs distinct.1 i j x y p q e)
+not-below : (xs : List Identity) → IsDistinct identity_eq xs → (i j : ℕ) (x y : Identity) → slice_get xs i ≡ Some x → slice_get xs j ≡ Some y → identity_eq x y ≡ true → i < j → ⊥
+not-below xs distinct i j x y p q t h =
+    true≢false (sym t ∙ (λ k. identity_eq (sym (get_or_from_slice_get xs i x x p) k) (sym (get_or_from_slice_get xs j y x q) k)) ∙ apart_from_distinct identity_eq xs i j x distinct h (slice_get_within xs j y q))
 
 -- no identity stands twice among the streams
 abbrev pub AreApart : List StreamContents → Type 0
@@ -55,7 +46,9 @@ AreApart ks = (i j : ℕ) (a b : StreamContents) → slice_get ks i ≡ Some a �
 
 pub are_apart : (ks : List StreamContents) → IsDistinct identity_eq (stream_identities ks) → AreApart ks
 are_apart ks distinct i j a b p q t =
-    apart_by (stream_identities ks) distinct i j (identity_of a) (identity_of b)
-    (slice_get-map identity_of ks i ∙ ap (option_map identity_of) p)
-    (slice_get-map identity_of ks j ∙ ap (option_map identity_of) q)
-    (identity_eq_true (identity_of a) (identity_of b) t)
+    let xs : List Identity = stream_identities ks in
+    let at : slice_get xs i ≡ Some (identity_of a) = get_map identity_of ks i a p in
+    let also : slice_get xs j ≡ Some (identity_of b) = get_map identity_of ks j b q in
+    ⊎_elim (λ e. e)
+    (⊎_elim (λ h. absurd (not-below xs distinct i j (identity_of a) (identity_of b) at also t h)) (λ h. absurd (not-below xs distinct j i (identity_of b) (identity_of a) also at (test-flip (identity_of a) (identity_of b) ∙ t) h)))
+    (cases_order i j)

@@ -1,11 +1,12 @@
 -- What meets demands, one after another.
 use Rattle.std.proofs.Common.{◌≡◌, ℕ, zero, suc, ◌<◌, Bool, true, false, cond, not, ◌||◌, List, [], ◌∷◌, ◌++◌, map, filter, fold, length, Some, None, slice_get, refl, sym, ◌∙◌, ap, subst, arith, append_assoc, true≢false, is_some, take, All}
 use Rattle.std.proofs.Math.Bool.{or-false, or-true, or_assoc, or_comm}
+use Rattle.std.proofs.lemmas.Bool.{cond_both, or_parts}
 use Rattle.std.proofs.lemmas.Grind.{common_steps}
 use Rattle.std.proofs.lemmas.Map.Views.{any-filter_same}
-use Rattle.std.proofs.lemmas.Option.{slice_get_within}
+use Rattle.std.proofs.lemmas.Option.{get_or_from_slice_get, slice_get-get_or, slice_get_within}
 use Rattle.std.specs.List.{list_any, IsDistinct, AllByRecursion}
-use Rattle.std.proofs.lemmas.List.{append-nil, map-append, length-append}
+use Rattle.std.proofs.lemmas.List.{append-nil, get_or_append_left, get_or_push, map-append, length-append, length_push}
 use Rattle.std.proofs.lemmas.List.Elements.{All-push, filter-append}
 use Rattle.std.proofs.lemmas.List.Sums.{fold-append}
 use Rattle.otel_model_stream.specs.Totals.{has_number}
@@ -116,25 +117,20 @@ fed-some q ds = ap some_stream (fed-is q ds) ∙ (first (filter (λ y. not (q y)
 
     any : (ds : List Demand) → some_stream (filter (λ y. not (q y)) (ids ds)) ≡ list_any (λ (d : Demand). not (q d.identity)) ds
     any [] = refl
-    any (d ∷ ds) = by (not (q d.identity)) (any ds)
-      where
-        by : (b : Bool) → some_stream (filter (λ y. not (q y)) (ids ds)) ≡ list_any (λ (d : Demand). not (q d.identity)) ds
-            → some_stream (cond b (d.identity ∷ filter (λ y. not (q y)) (ids ds)) (filter (λ y. not (q y)) (ids ds))) ≡ (b || list_any (λ (d : Demand). not (q d.identity)) ds)
-        by true rest = refl
-        by false rest = rest
+    any (d ∷ ds) = cond_both (not (q d.identity)) (d.identity ∷ filter (λ y. not (q y)) (ids ds)) (filter (λ y. not (q y)) (ids ds)) (λ (xs : List Identity). some_stream xs ≡ list_any (λ (d : Demand). not (q d.identity)) (d ∷ ds))
+        (λ t i. sym t i || list_any (λ (d : Demand). not (q d.identity)) ds)
+        (λ f. any ds ∙ λ i. sym f i || list_any (λ (d : Demand). not (q d.identity)) ds)
 
 -- ======== the table of fates ========
 -- what is known once these demands are entered
 enter-known : (fs : List Demand) (d : Demand) (y : Identity) → model.is_known (machine.enter fs d) y ≡ (model.is_known fs y || identity_eq d.identity y)
-enter-known fs d y = by (model.is_known fs d.identity) refl
+enter-known fs d y = cond_both (model.is_known fs d.identity) fs (fs ++ d ∷ []) (λ l. model.is_known l y ≡ (model.is_known fs y || identity_eq d.identity y))
+    (λ t. within (model.is_known fs y) (identity_eq d.identity y) (λ e. ap (model.is_known fs) (sym (identity_eq_true d.identity y e)) ∙ t))
+    (λ _. known-append fs (d ∷ []) y ∙ ap (λ b. model.is_known fs y || b) (or-false (identity_eq d.identity y)))
   where
     within : (k e : Bool) → (e ≡ true → k ≡ true) → k ≡ (k || e)
     within k true f = f refl ∙ sym (or-true k)
     within k false f = sym (or-false k)
-
-    by : (b : Bool) → model.is_known fs d.identity ≡ b → model.is_known (cond b fs (fs ++ d ∷ [])) y ≡ (model.is_known fs y || identity_eq d.identity y)
-    by true t = within (model.is_known fs y) (identity_eq d.identity y) (λ e. ap (model.is_known fs) (sym (identity_eq_true d.identity y e)) ∙ t)
-    by false f = known-append fs (d ∷ []) y ∙ ap (λ b. model.is_known fs y || b) (or-false (identity_eq d.identity y))
 
 entered-known : (fs ds : List Demand) (y : Identity) → model.is_known (fold machine.enter fs ds) y ≡ (model.is_known fs y || has (ids ds) y)
 entered-known fs [] y = sym (or-false (model.is_known fs y))
@@ -150,13 +146,9 @@ demanded-fates now p (d ∷ ds) = demanded-fates now (machine.part_after_demand 
 
 -- ======== longer lists of streams ========
 get-append : (ks ms : List StreamContents) (n : ℕ) (m : StreamContents) → slice_get ks n ≡ Some m → slice_get (ks ++ ms) n ≡ Some m
-get-append [] ms n m e = absurd (cc)
-get-append (x ∷ ks) ms zero m e = e
-get-append (x ∷ ks) ms (suc n) m e = get-append ks ms n m e
-
-get-last : (ks : List StreamContents) (k : StreamContents) → slice_get (ks ++ k ∷ []) (length ks) ≡ Some k
-get-last [] k = refl
-get-last (x ∷ ks) k = get-last ks k
+get-append ks ms n m e =
+    let within : n < length ks = slice_get_within ks n m e in
+    slice_get-get_or (ks ++ ms) n m (omega (arith, within, length-append {A = StreamContents})) ∙ ap (λ k. Some k) (get_or_append_left ks ms m n within ∙ get_or_from_slice_get ks n m m e)
 
 -- the streams there keep their numbers
 named-front : (ks ms : List StreamContents) (ns : List ℕ) → HaveStreams ns ks → named_identities (ks ++ ms) ns ≡ named_identities ks ns
@@ -172,33 +164,20 @@ all_named-front : (ks ms : List StreamContents) (feeds : List (List ℕ)) → Al
 all_named-front ks ms [] all = refl
 all_named-front ks ms (ns ∷ feeds) all = λ i. named-front ks ms ns (numbers-named ks ns (all 0 ns (omega arith))) i ∷ all_named-front ks ms feeds (λ j d h. all (suc j) d (omega arith)) i
 
-streamed-push : (ks : List StreamContents) (k : StreamContents) → model_streams (ks ++ k ∷ []) ≡ model_streams ks ++ cond (is_streamed k) (k.stream ∷ []) []
-streamed-push [] k = by (is_streamed k)
+streamed-push : (ks : List StreamContents) (k : StreamContents) → model_streams (ks ++ k ∷ []) ≡ model_streams ks ++ cond (model.is_drop k.stream.demand.aggregation) [] (k.stream ∷ [])
+streamed-push ks k =
+    ap (map (λ (h : StreamContents). h.stream)) (filter-append is_streamed ks (k ∷ []))
+    ∙ map-append (λ (h : StreamContents). h.stream) (filter is_streamed ks) (filter is_streamed (k ∷ []))
+    ∙ ap (λ ss. model_streams ks ++ ss) (by (model.is_drop k.stream.demand.aggregation))
   where
-    by : (b : Bool) → map (λ (h : StreamContents). h.stream) (cond b (k ∷ []) []) ≡ cond b (k.stream ∷ []) []
+    by : (b : Bool) → map (λ (h : StreamContents). h.stream) (cond (not b) (k ∷ []) []) ≡ cond b [] (k.stream ∷ [])
     by true = refl
     by false = refl
-streamed-push (x ∷ ks) k = by (is_streamed x) (streamed-push ks k)
-  where
-    by : (b : Bool) → model_streams (ks ++ k ∷ []) ≡ model_streams ks ++ cond (is_streamed k) (k.stream ∷ []) []
-        → map (λ (h : StreamContents). h.stream) (cond b (x ∷ filter is_streamed (ks ++ k ∷ [])) (filter is_streamed (ks ++ k ∷ [])))
-        ≡ map (λ (h : StreamContents). h.stream) (cond b (x ∷ filter is_streamed ks) (filter is_streamed ks)) ++ cond (is_streamed k) (k.stream ∷ []) []
-    by true rest = ap (λ ss. x.stream ∷ ss) rest
-    by false rest = rest
 
 -- ======== one demand more ========
-if_dropped : {X : Type 0} (b : Bool) (x : X) → cond (not b) (x ∷ []) [] ≡ cond b [] (x ∷ [])
-if_dropped true x = refl
-if_dropped false x = refl
-
--- a demand that is known changes nothing
-demanded-known : (now : ℕ) (p : Piped) (d : Demand) → model.is_known (fates_of p.streams) d.identity ≡ true → part_of p ≡ machine.part_after_demand now (part_of p) d
-demanded-known now p d e = λ i. record {
-  answers = p.answers;
-  fates = cond (sym e i) (fates_of p.streams) (fates_of p.streams ++ d ∷ []);
-  streams = cond (sym e i) (model_streams p.streams) (model_streams p.streams ++ cond (model.is_drop d.aggregation) [] (machine.new_stream now d ∷ []));
-  feeds = map (named_identities p.streams) p.feeds;
-}
+-- a part after a demand whose identity is known or not
+abbrev demanded : ℕ → ReaderPart → Demand → Bool → ReaderPart
+demanded now q d b = record q { fates = cond b q.fates (q.fates ++ d ∷ []); streams = cond b q.streams (q.streams ++ cond (model.is_drop d.aggregation) [] (machine.new_stream now d ∷ [])) }
 
 -- one that isn't makes a stream
 demanded-new : (now : ℕ) (answers : ReaderAnswers) (ks : List StreamContents) (feeds : List (List ℕ)) (d : Demand) (resets : Bool) → All (AreNumbers ks) feeds → model.is_known (fates_of ks) d.identity ≡ false
@@ -207,22 +186,14 @@ demanded-new now answers ks feeds d resets numbers e =
     (λ i. record {
       answers = answers;
       fates = map-append (λ (k : StreamContents). k.stream.demand) ks (new_contents resets d now ∷ []) i;
-      streams = (streamed-push ks (new_contents resets d now) ∙ ap (λ s. model_streams ks ++ s) (if_dropped (model.is_drop d.aggregation) (machine.new_stream now d))) i;
+      streams = streamed-push ks (new_contents resets d now) i;
       feeds = all_named-front ks (new_contents resets d now ∷ []) feeds numbers i;
     })
-    ∙ λ i. record {
-      answers = answers;
-      fates = cond (sym e i) (fates_of ks) (fates_of ks ++ d ∷ []);
-      streams = cond (sym e i) (model_streams ks) (model_streams ks ++ cond (model.is_drop d.aggregation) [] (machine.new_stream now d ∷ []));
-      feeds = map (named_identities ks) feeds;
-    }
+    ∙ ap (demanded now (part_by answers ks feeds) d) (sym e)
 
 -- nothing more
 pub longer-refl : (p : Piped) → IsLonger p p
 longer-refl p = record { added = []; fed = []; answers = refl; streams = sym (append-nil p.streams); feeds = sym (append-nil p.feeds) }
-
-pub longer-same : (old new : Piped) → new ≡ old → IsLonger old new
-longer-same old new e = subst (IsLonger old) (sym e) (longer-refl old)
 
 pub longer-trans : (a b c : Piped) → IsLonger a b → IsLonger b c → IsLonger a c
 longer-trans a b c p q = record {
@@ -237,7 +208,7 @@ longer-trans a b c p q = record {
 pub met-known : (now : ℕ) (d : Demand) (p : Piped) (n : ℕ) → stream_number d.identity (stream_identities p.streams) ≡ Some n → IsMetBy now d p p n
 met-known now d p n e = record {
   longer = longer-refl p;
-  part = demanded-known now p d (known d.identity p.streams ∙ ap is_some e);
+  part = ap (demanded now (part_of p) d) (sym (known d.identity p.streams ∙ ap is_some e));
   hash_seed = refl;
   at = found d.identity p.streams n e;
 }
@@ -249,7 +220,7 @@ met-new now d resets p e numbers = record {
   longer = record { added = fresh ∷ []; fed = []; answers = refl; streams = refl; feeds = sym (append-nil p.feeds) };
   part = demanded-new now p.answers p.streams p.feeds d resets numbers unknown;
   hash_seed = refl;
-  at = get_map identity_of (p.streams ++ fresh ∷ []) (length p.streams) fresh (get-last p.streams fresh);
+  at = get_map identity_of (p.streams ++ fresh ∷ []) (length p.streams) fresh (slice_get-get_or (p.streams ++ fresh ∷ []) (length p.streams) fresh (omega (arith, length_push p.streams fresh)) ∙ ap (λ k. Some k) (get_or_push p.streams fresh fresh (length p.streams) refl));
 }
   where
     fresh : StreamContents
@@ -259,22 +230,6 @@ met-new now d resets p e numbers = record {
     unknown = known d.identity p.streams ∙ ap is_some e
 
 -- ======== the demands of an instrument ========
--- the numbers that are fed, with one more
-numbers-once : (ks : List StreamContents) (b : Bool) (n : ℕ) (ns : List ℕ) → n < length ks → AreNumbers ks ns → AreNumbers ks (fed_once b n ns)
-numbers-once ks b n ns h all = by (b || has_number n ns)
-  where
-    by : (c : Bool) → AreNumbers ks (cond c ns (ns ++ n ∷ []))
-    by true = all
-    by false = All-push (λ n. n < length ks) ns n all h
-
-once-more : (b : Bool) (n : ℕ) (ns : List ℕ) → AreFedOnce ns → AreFedOnce (fed_once b n ns)
-once-more b n ns once = by b (has_number n ns) refl
-  where
-    by : (b h : Bool) → has_number n ns ≡ h → AreFedOnce (cond (b || h) ns (ns ++ n ∷ []))
-    by true h e = once
-    by false true e = once
-    by false false e = once-push ns n once e
-
 pub met-none : (now : ℕ) (p : Piped) → AreMet now [] p p []
 met-none now p = record { part = refl; hash_seed = refl; numbers = λ j n h. absurd (omega arith); once = tt; named = refl }
 
@@ -287,17 +242,15 @@ module _ (now : ℕ) (ds : List Demand) (d : Demand) (first old new : Piped) (n 
   fed = model.fed_identities dropped ds
 
   -- what was demanded is known, and keeps its fate
-  known-demanded : (y : Identity) → has (ids ds) y ≡ true → model.is_known (fates_of old.streams) y ≡ true
-  known-demanded y h =
-      ap (λ (p : ReaderPart). model.is_known p.fates y) was.part
-      ∙ (ap (λ fs. model.is_known fs y) (demanded-fates now (part_of first) ds)
-      ∙ (entered-known (fates_of first.streams) ds y ∙ or_right (model.is_known (fates_of first.streams) y) (has (ids ds) y) h))
-
   same-fate : (y : Identity) → has (ids ds) y ≡ true → model.is_dropped (fates_of old.streams) y ≡ dropped y
   same-fate y h =
+      let is_known : model.is_known (fates_of old.streams) y ≡ true =
+      ap (λ (p : ReaderPart). model.is_known p.fates y) was.part
+      ∙ (ap (λ fs. model.is_known fs y) (demanded-fates now (part_of first) ds)
+      ∙ (entered-known (fates_of first.streams) ds y ∙ or_right (model.is_known (fates_of first.streams) y) (has (ids ds) y) h)) in
       sym (ap (λ ks. model.is_dropped (fates_of ks) y) by.longer.streams
       ∙ (ap (λ fs. model.is_dropped fs y) (map-append (λ (k : StreamContents). k.stream.demand) old.streams by.longer.added)
-      ∙ ap model.is_drop_fate (fate_stays (fates_of old.streams) (fates_of by.longer.added) y (known-demanded y h))))
+      ∙ ap model.is_drop_fate (fate_stays (fates_of old.streams) (fates_of by.longer.added) y is_known)))
 
   numbers-more : AreNumbers new.streams feeds
   numbers-more j m h = let q = was.numbers j m h in omega (arith, ap length by.longer.streams, length-append {A = StreamContents})
@@ -330,12 +283,12 @@ module _ (now : ℕ) (ds : List Demand) (d : Demand) (first old new : Piped) (n 
     named false t = more (has_number n feeds) (has (ids ds) d.identity) (same t) ∙ ap (λ b. fed ++ cond (b || has (ids ds) d.identity) [] (d.identity ∷ [])) (sym t)
 
     pub met-more : (all : List ℕ) → all ≡ fed_once (model.is_drop k.stream.demand.aggregation) n feeds → AreMet now (ds ++ d ∷ []) first new all
-    met-more all e = subst (AreMet now (ds ++ d ∷ []) first new) (sym e) (record {
+    met-more all e = let drops : Bool = model.is_drop k.stream.demand.aggregation in subst (AreMet now (ds ++ d ∷ []) first new) (sym e) (record {
       part = by.part ∙ (ap (λ p. machine.part_after_demand now p d) was.part ∙ sym (fold-append (machine.part_after_demand now) (part_of first) ds (d ∷ [])));
       hash_seed = by.hash_seed ∙ was.hash_seed;
-      numbers = numbers-once new.streams (model.is_drop k.stream.demand.aggregation) n feeds (slice_get_within new.streams n k at) numbers-more;
-      once = once-more (model.is_drop k.stream.demand.aggregation) n feeds was.once;
-      named = named (model.is_drop k.stream.demand.aggregation) (ap dropped (sym is) ∙ fate-at new.streams n k apart at) ∙ sym (fed-push dropped ds d);
+      numbers = cond_both (drops || has_number n feeds) feeds (feeds ++ n ∷ []) (AreNumbers new.streams) (λ _. numbers-more) (λ _. All-push (λ n. n < length new.streams) feeds n numbers-more (slice_get_within new.streams n k at));
+      once = cond_both (drops || has_number n feeds) feeds (feeds ++ n ∷ []) AreFedOnce (λ _. was.once) (λ e. once-push feeds n was.once (or_parts drops (has_number n feeds) e).1);
+      named = named drops (ap dropped (sym is) ∙ fate-at new.streams n k apart at) ∙ sym (fed-push dropped ds d);
     })
 
 -- ======== a build ========

@@ -1,7 +1,5 @@
 -- Observations that are taken in stream by stream, and a collection after them, are the model's collection.
 use Rattle.std.proofs.Common.{◌≡◌, ℕ, Bool, true, false, List, [], ◌∷◌, map, fold, refl, sym, ◌∙◌, ap, subst, arith}
-use Rattle.std.specs.List.{IsDistinct}
-use Rattle.std.specs.Prelude.{All}
 use Rattle.std.proofs.lemmas.List.{map-id}
 use Rattle.std.proofs.lemmas.List.Elements.{All-tail}
 use Rattle.std.proofs.lemmas.Simd.{map-map}
@@ -12,23 +10,22 @@ use Rattle.otel_data.specs.declared.collections.ResourceMetrics.{ResourceMetrics
 use Rattle.otel_aggregate.specs.Any.{is_signed_value}
 use Rattle.otel_model_stream.specs.Events.{Event}
 use Rattle.otel_model.specs.Calls as model
-use Rattle.otel_model.specs.Demands.{Demand, Identity, ReaderAnswers, identity_eq}
+use Rattle.otel_model.specs.Demands.{Demand, Identity, ReaderAnswers}
 use Rattle.otel_model.specs.Collections.{metric, collection, ScopedMetric}
 use Rattle.otel_model.specs.Machine.{machine_after, part_after_call, points_at, recorded_over, stream_after}
 use Rattle.otel_model.specs.Sent.{is_fed, observed_events}
 use Rattle.otel_model.specs.State.{ReaderPart, Shared, Stream}
 use Rattle.otel_model.specs.Steps.{collect_from}
-use Rattle.otel_model.specs.Streams.{aggregate_of, is_delta, kind_of}
+use Rattle.otel_model.specs.Streams.{aggregate_of, kind_of}
 use Rattle.otel_model.proofs.Follow.{run_append, recorded_append}
 use Rattle.opentelemetry_sdk.specs.pipeline.Collections.{IsCollectedFrom, scopes_shown}
 use Rattle.opentelemetry_sdk.specs.pipeline.Observations.{observed_of, AreTypedFor, observed_in, observed_all}
-use Rattle.opentelemetry_sdk.specs.pipeline.Pipelines.{AreAnswered, FeedsType, IsLawful, Piped, all_without_pending, fates_of, fed_by, all_after_collection, part_by, part_of}
-use Rattle.opentelemetry_sdk.specs.pipeline.Streams.{StreamContents, contents_after_record}
-use Rattle.opentelemetry_sdk.proofs.pipeline.Answered.{answered-same, answers-observed, records}
+use Rattle.opentelemetry_sdk.specs.pipeline.Pipelines.{AreAnswered, FeedsType, IsLawful, Piped, all_without_pending, all_after_collection, part_by, part_of}
+use Rattle.opentelemetry_sdk.specs.pipeline.Streams.{StreamContents}
+use Rattle.opentelemetry_sdk.proofs.pipeline.Answered.{answered-same, answers-observed}
 use Rattle.opentelemetry_sdk.proofs.pipeline.Collects.{collected-is, part-finished}
-use Rattle.opentelemetry_sdk.proofs.pipeline.PipelineLemmas.{fates-changed, feeds-same, identities-same, numbers-kept}
+use Rattle.opentelemetry_sdk.proofs.pipeline.PipelineLemmas.{lawful-same}
 use Rattle.opentelemetry_sdk.proofs.pipeline.Records.{taken-sent}
-use Rattle.opentelemetry_sdk.proofs.pipeline.Writes.{length-seen}
 
 -- ======== the model: records of observations, and a collection without ========
 -- an observation as a record
@@ -45,14 +42,7 @@ module _ (answers : ReaderAnswers) (feeds : List (List Identity)) where
 
   -- a stream after these events, which are records
   abbrev stream_over : List Event → Stream → Stream
-  stream_over es s = record {
-    demand = s.demand;
-    machine = machine_after answers s.demand es s.machine;
-    start = s.start;
-    reported = s.reported;
-    recorded = recorded_over (aggregate_of s.demand) (kind_of answers s.demand) s.demand.limit s.machine s.recorded es;
-    exported = s.exported;
-  }
+  stream_over es s = record s { machine = machine_after answers s.demand es s.machine; recorded = recorded_over (aggregate_of s.demand) (kind_of answers s.demand) s.demand.limit s.machine s.recorded es }
 
   over_one : (s : Stream) (o : model.Observed) (os : List model.Observed) (b : Bool) → is_fed feeds o.instrument s.demand.identity ≡ b
       → stream_over (observed_events feeds s.demand os) (sent_one s o) ≡ stream_over (observed_events feeds s.demand (o ∷ os)) s
@@ -67,13 +57,9 @@ module _ (answers : ReaderAnswers) (feeds : List (List Identity)) where
       → stream_after answers feeds 0 (model.Call.Collect r now []) (fold sent_one s os) ≡ stream_after answers feeds 0 (model.Call.Collect r now os) s
   collected_after r now os s =
       ap (stream_after answers feeds 0 (model.Call.Collect r now [])) (records_over os s)
-      ∙ λ i. record {
-        demand = s.demand;
+      ∙ λ i. record (stream_after answers feeds 0 (model.Call.Collect r now os) s) {
         machine = sym (run_append (aggregate_of s.demand) (kind_of answers s.demand) s.demand.limit s.machine (observed_events feeds s.demand os) (Event.Collect ∷ [])) i;
-        start = (stream_after answers feeds 0 (model.Call.Collect r now os) s).start;
-        reported = (stream_after answers feeds 0 (model.Call.Collect r now os) s).reported;
         recorded = sym (recorded_append (aggregate_of s.demand) (kind_of answers s.demand) s.demand.limit s.machine s.recorded (observed_events feeds s.demand os) (Event.Collect ∷ [])) i;
-        exported = (stream_after answers feeds 0 (model.Call.Collect r now os) s).exported;
       }
 
   -- the metric of a stream, with its scope
@@ -99,22 +85,16 @@ collected-from s now os p =
 
 -- ======== the code: observations taken in stream by stream ========
 answered-observed : (os : List Observed) (p : Piped) → AreAnswered p.answers p.streams → AreAnswered p.answers (observed_all p.feeds os p.streams)
-answered-observed os p all = answered-same (λ resets d. resets ≡ is_delta p.answers d) (observed_all p.feeds os p.streams) p.streams (answers-observed p.feeds os p.streams) all
-
--- the reader, with these streams
-abbrev with_streams : List StreamContents → Piped → Piped
-with_streams ks p = record { answers = p.answers; streams = ks; feeds = p.feeds; hash_seed = p.hash_seed }
+answered-observed os p all = answered-same p.answers (observed_all p.feeds os p.streams) p.streams (answers-observed p.feeds os p.streams) all
 
 observed-sent : (os : List Observed) (p : Piped) → IsLawful p → AreTypedFor os (part_of p) → part_by p.answers (observed_all p.feeds os p.streams) p.feeds ≡ records_sent (map observed_of os) (part_of p)
 observed-sent [] p lawful typed = refl
 observed-sent (o ∷ os) p lawful typed =
-    let next : List StreamContents = observed_in p.feeds p.streams o in
-    let same : fates_of next ≡ fates_of p.streams = fates-changed (contents_after_record o.value o.attributes) (records o.value o.attributes) (fed_by o.instrument p) p.streams in
-    observed-sent os (with_streams next p)
-    (record { apart = subst (IsDistinct identity_eq) (sym (identities-same next p.streams same)) lawful.apart; numbers = numbers-kept p.streams next p.feeds (length-seen (λ (k : StreamContents). k.stream.demand) p.streams next (sym same)) lawful.numbers; once = lawful.once })
-    (subst (λ (fs : List (List Identity)). All (λ (q : Observed). (x : Identity) → is_fed fs q.instrument x ≡ true → x.signed ≡ is_signed_value q.value) os) (sym (feeds-same next p.streams same p.feeds))
-    (All-tail (λ (q : Observed). FeedsType q.instrument (is_signed_value q.value) (part_of p)) o os typed))
-    ∙ ap (records_sent (map observed_of os)) (taken-sent o.instrument o.value o.attributes p lawful (typed 0 o (omega arith)))
+    let next : Piped = record p { streams = observed_in p.feeds p.streams o } in
+    let sent : part_of next ≡ part_after_call 0 (record_of (observed_of o)) (part_of p) = taken-sent o.instrument o.value o.attributes p lawful (typed 0 o (omega arith)) in
+    observed-sent os next (lawful-same p next.streams (ap (λ (q : ReaderPart). q.fates) sent) lawful)
+    (subst (AreTypedFor os) (sym sent) (All-tail (λ (q : Observed). FeedsType q.instrument (is_signed_value q.value) (part_of p)) o os typed))
+    ∙ ap (records_sent (map observed_of os)) sent
 
 -- a collection that took observations in has the scopes that are shown
 pub observed-is : (resource : Resource) (meters : List InstrumentationScope) (now : ℕ) (os : List Observed) (p : Piped) (c : ResourceMetrics)

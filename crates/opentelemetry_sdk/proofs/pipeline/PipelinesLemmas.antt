@@ -27,8 +27,3 @@ module _ {X Y : Type 0} (seen g : X → Y) where
   -- all elements
   pub done-all : (old new : List X) (i : ℕ) → length old ≤ i → IsDoneUpto old new i → map seen new ≡ map g old
   done-all old new i h done = agree old new done.long (λ k l d. done.done k (omega arith) d)
-
--- each element as it is
-pub each-same : {X : Type 0} (xs : List X) → map (λ (x : X). x) xs ≡ xs
-each-same [] = refl
-each-same (x ∷ xs) = ap (λ ys. x ∷ ys) (each-same xs)

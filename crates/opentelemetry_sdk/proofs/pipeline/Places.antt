@@ -1,8 +1,9 @@
 -- Metrics that are put down at the places of their meters.
-use Rattle.std.proofs.Common.{◌≡◌, ℕ, zero, suc, ◌+◌, ◌<◌, ◌≤◌, Bool, true, false, cond, ◌&&◌, List, [], ◌∷◌, ◌++◌, map, filter, length, get_or, set, drop, replicate, Option, Some, None, refl, sym, ◌∙◌, ap, subst, arith, append_assoc, add-one, IfSome}
+use Rattle.std.proofs.Common.{◌≡◌, ℕ, zero, suc, ◌+◌, ◌<◌, ◌≤◌, Bool, true, false, cond, ◌&&◌, List, [], ◌∷◌, ◌++◌, map, filter, length, get_or, set, drop, replicate, Option, Some, None, refl, sym, ◌∙◌, ap, subst, arith, append_assoc, IfSome}
 use Rattle.std.specs.List.{IsDistinct, AllByRecursion, list_any, position, slice_get}
-use Rattle.std.proofs.lemmas.Bool.{or_parts}
-use Rattle.std.proofs.lemmas.List.{append-nil, drop_all, length-map, length-replicate, nil_from_length}
+use Rattle.std.proofs.Math.Bool.{and-false}
+use Rattle.std.proofs.lemmas.Bool.{cond_both, or_parts}
+use Rattle.std.proofs.lemmas.List.{append-nil, at_drop_more, drop_all, nil_from_length}
 use Rattle.std.proofs.lemmas.List.Elements.{All-from_recursion, filter-append}
 use Rattle.std.proofs.lemmas.List.Folds.{list_any_none}
 use Rattle.otel_common.specs.Scopes.{scope_eq, scope_eq-Decides}
@@ -19,25 +20,15 @@ use Rattle.opentelemetry_sdk.proofs.pipeline.Builds.{position-at}
 use Rattle.opentelemetry_sdk.proofs.pipeline.Identities.{scope-flip}
 
 -- ======== one stream less is left ========
-shown_first : (a b : Bool) (m : ScopedMetric) (xs : List ScopedMetric) (p : ScopedMetric → Bool) → p m ≡ b → map (λ (m : ScopedMetric). m.1) (filter p (cond a (m ∷ xs) xs)) ≡ if_shown (a && b) m.1 ++ map (λ (m : ScopedMetric). m.1) (filter p xs)
-shown_first true true m xs p e = rw e refl
-shown_first true false m xs p e = rw e refl
-shown_first false b m xs p e = refl
-
-scoped_first : (now : ℕ) (b : Bool) (k : StreamContents) (ks : List StreamContents) → map (scoped_metric now) (cond b (k ∷ ks) ks) ≡ cond b (scoped_metric now k ∷ map (scoped_metric now) ks) (map (scoped_metric now) ks)
-scoped_first now true k ks = refl
-scoped_first now false k ks = refl
-
 shown-cons : (scope : InstrumentationScope) (now : ℕ) (k : StreamContents) (ks : List StreamContents) → shown_in scope now (k ∷ ks) ≡ shown_one scope now k ++ shown_in scope now ks
 shown-cons scope now k ks =
-    ap (λ ms. (in_scope ms scope).metrics) (scoped_first now (is_streamed k) k (filter is_streamed ks))
-    ∙ shown_first (is_streamed k) _ (scoped_metric now k) (all_scoped now ks) (λ (m : ScopedMetric). scope_eq m.0 scope && has_points m.1) refl
-
--- one stream less is left
-shown-suc : (scope : InstrumentationScope) (now : ℕ) (ks : List StreamContents) (i : ℕ) (k : StreamContents) → i < length ks → k ≡ get_or ks i k → shown_in scope now (drop i ks) ≡ shown_one scope now k ++ shown_in scope now (drop (suc i) ks)
-shown-suc scope now [] i k h at = absurd (omega arith)
-shown-suc scope now (m ∷ ks) zero k h at = shown-cons scope now m ks ∙ ap (λ x. shown_one scope now x ++ shown_in scope now ks) (sym at)
-shown-suc scope now (m ∷ ks) (suc i) k h at = shown-suc scope now ks i k (omega arith) at
+    cond_both (is_streamed k) (k ∷ filter is_streamed ks) (filter is_streamed ks) (λ (hs : List StreamContents). (in_scope (map (scoped_metric now) hs) scope).metrics ≡ shown_one scope now k ++ shown_in scope now ks)
+    (λ t. first (scope_eq k.stream.demand.identity.scope scope && has_points (shown_metric now k)) ∙ λ i. if_shown (sym t i && (scope_eq k.stream.demand.identity.scope scope && has_points (shown_metric now k))) (shown_metric now k) ++ shown_in scope now ks)
+    (λ f i. if_shown (sym f i && (scope_eq k.stream.demand.identity.scope scope && has_points (shown_metric now k))) (shown_metric now k) ++ shown_in scope now ks)
+  where
+    first : (b : Bool) → map (λ (m : ScopedMetric). m.1) (cond b (scoped_metric now k ∷ (filter (λ (m : ScopedMetric). scope_eq m.0 scope && has_points m.1) (all_scoped now ks))) (filter (λ (m : ScopedMetric). scope_eq m.0 scope && has_points m.1) (all_scoped now ks))) ≡ if_shown b (shown_metric now k) ++ shown_in scope now ks
+    first true = refl
+    first false = refl
 
 -- ======== lists that are joined ========
 -- before the first
@@ -45,9 +36,6 @@ pub joined-none : {A B : Type 0} (f : B → List A) (bs : List B) (n : ℕ) → 
 joined-none f [] zero e = refl
 joined-none f (b ∷ bs) (suc n) e = λ i. f b ∷ joined-none f bs n (omega arith) i
 joined-none f bs n e = absurd (omega arith)
-
-pub lists-long : {V : Type 0} (view : V → List Metric) (vs : List V) (n : ℕ) → map view vs ≡ replicate n [] → length vs ≡ n
-lists-long view vs n e = sym (length-map vs view) ∙ (ap length e ∙ length-replicate n [])
 
 -- where nothing is added
 pub joined-nothing : {A B : Type 0} (f : B → List A) (xs : List (List A)) (bs : List B) → ((b : B) → f b ≡ []) → append_each xs (map f bs) ≡ xs
@@ -103,26 +91,14 @@ pushed-dropped now k xs ms e = joined-nothing (λ m. shown_one m now k) xs ms (�
 pub pushed-pointless : (now : ℕ) (k : StreamContents) (xs : List (List Metric)) (ms : List InstrumentationScope) → has_points (shown_metric now k) ≡ false → append_each xs (map (λ m. shown_one m now k) ms) ≡ xs
 pushed-pointless now k xs ms e =
     joined-nothing (λ m. shown_one m now k) xs ms
-    (λ m. ap (λ b. if_shown (is_streamed k && (scope_eq k.stream.demand.identity.scope m && b)) (shown_metric now k)) e ∙ none (is_streamed k) (scope_eq k.stream.demand.identity.scope m))
-  where
-    none : (a b : Bool) → if_shown (a && (b && false)) (shown_metric now k) ≡ []
-    none true true = refl
-    none a b = refl
-
--- what has points is shown
-pub pointed : (m : Metric) (o : Option Metric) → o ≡ if_points m → (x : Metric) → o ≡ Some x → (has_points m ≡ true) × (x ≡ m)
-pointed m o e x is = by (has_points m) refl (sym is ∙ e)
-  where
-    by : (b : Bool) → has_points m ≡ b → Some x ≡ cond b (Some m) None → (has_points m ≡ true) × (x ≡ m)
-    by true p q = (p, cc)
-    by false p q = absurd (cc)
+    (λ m. ap (λ b. if_shown (is_streamed k && (scope_eq k.stream.demand.identity.scope m && b)) (shown_metric now k)) e ∙ ap (λ b. if_shown b (shown_metric now k)) (ap (λ b. is_streamed k && b) (and-false (scope_eq k.stream.demand.identity.scope m)) ∙ and-false (is_streamed k)))
 
 pub pointless : (m : Metric) (o : Option Metric) → o ≡ if_points m → o ≡ None → has_points m ≡ false
-pointless m o e is = by (has_points m) refl (sym is ∙ e)
+pointless m o e is = by (has_points m) (sym is ∙ e)
   where
-    by : (b : Bool) → has_points m ≡ b → None ≡ cond b (Some m) None → has_points m ≡ false
-    by true p q = absurd (cc)
-    by false p q = p
+    by : (b : Bool) → None ≡ cond b (Some m) None → b ≡ false
+    by true q = absurd (cc)
+    by false q = refl
 
 streamed_gets : (now : ℕ) (k : StreamContents) → is_streamed k ≡ true → (λ (m : InstrumentationScope). shown_one m now k) ≡ gets k.stream.demand.identity.scope (has_points (shown_metric now k)) (shown_metric now k)
 streamed_gets now k e = λ i m. if_shown (e i && (scope_eq k.stream.demand.identity.scope m && has_points (shown_metric now k))) (shown_metric now k)
@@ -144,7 +120,9 @@ pushed-at view now k vs ms n old new e points long apart at is more =
 pub places-more : (now : ℕ) (done done' all : List (List Metric)) (ks : List StreamContents) (i : ℕ) (k : StreamContents) (ms : List InstrumentationScope) → i < length ks → k ≡ get_or ks i k
     → done' ≡ append_each done (map (λ m. shown_one m now k) ms) → append_each done (map (λ m. shown_in m now (drop i ks)) ms) ≡ all → append_each done' (map (λ m. shown_in m now (drop (i + 1) ks)) ms) ≡ all
 places-more now done done' all ks i k ms h at e so_far =
-    rw (add-one, e) (joined-twice (λ m. shown_one m now k) (λ m. shown_in m now (drop (suc i) ks)) (λ m. shown_in m now (drop i ks)) done ms (λ m. shown-suc m now ks i k h at) ∙ so_far)
+    rw e (joined-twice (λ m. shown_one m now k) (λ m. shown_in m now (drop (i + 1) ks)) (λ m. shown_in m now (drop i ks)) done ms
+    (λ m. at_drop_more (shown_in m now) ks i k h ∙ shown-cons m now (get_or ks i k) (drop (i + 1) ks) ∙ ap (λ x. shown_one m now x ++ shown_in m now (drop (i + 1) ks)) (sym at))
+    ∙ so_far)
 
 -- no stream is left
 pub places-all : (now : ℕ) (done all : List (List Metric)) (ks : List StreamContents) (i : ℕ) (ms : List InstrumentationScope) → length ks ≤ i → append_each done (map (λ m. shown_in m now (drop i ks)) ms) ≡ all → done ≡ all
@@ -157,9 +135,6 @@ pub left-more : {V : Type 0} (view : V → List Metric) (f : InstrumentationScop
     → vs ≡ v ∷ vs' → ms ≡ m ∷ ms' → map view vs ≡ map f ms → (view v ≡ f m) × (map view vs' ≡ map f ms')
 left-more view f vs vs' ms ms' v m e g same =
     let both : view v ∷ map view vs' ≡ f m ∷ map f ms' = ap (map view) (sym e) ∙ (same ∙ ap (map f) g) in (cc, cc)
-
-pub left-long : {V : Type 0} (view : V → List Metric) (f : InstrumentationScope → List Metric) (vs : List V) (ms : List InstrumentationScope) → map view vs ≡ map f ms → length vs ≡ length ms
-left-long view f vs ms e = sym (length-map vs view) ∙ (ap length e ∙ length-map ms f)
 
 pub scopes-more : (now : ℕ) (ks : List StreamContents) (done done' all : List ScopeMetrics) (s : InstrumentationScope) (metrics : List Metric) (ms ms' : List InstrumentationScope) → ms ≡ s ∷ ms' → metrics ≡ shown_in s now ks
     → done' ≡ done ++ filter has_metrics (record { scope = s; metrics = metrics } ∷ []) → done ++ scopes_shown now ks ms ≡ all → done' ++ scopes_shown now ks ms' ≡ all

@@ -1,7 +1,6 @@
 -- Streams that know attributes: records of these make no entry there, and leave them known.
 use Rattle.std.proofs.Common.{◌≡◌, ℕ, nat_lt, Bool, true, false, cond, not, ◌||◌, ◌&&◌, List, [], ◌∷◌, ◌++◌, refl, sym, ◌∙◌, ap}
-use Rattle.std.specs.Bool.{beq}
-use Rattle.std.proofs.lemmas.Bool.{or_left, or_right}
+use Rattle.std.proofs.lemmas.Bool.{cond_both, or_left, or_right}
 use Rattle.std.proofs.lemmas.List.Folds.{list_any-append}
 use Rattle.otel_common.specs.Equality.{set_eq}
 use Rattle.otel_common.specs.declared.attributes.KeyValue.{KeyValue}
@@ -11,7 +10,7 @@ use Rattle.otel_model_stream.specs.Entries.{Entry, new_entry, is_of, has, number
 use Rattle.otel_model_stream.specs.Maps.{bound_to}
 use Rattle.otel_model_stream.specs.Sets.{AttributeSet, none_set, over_set, set_of}
 use Rattle.otel_model_stream.proofs.Sets.{set_eq_true, set_eq_self, over_apart}
-use Rattle.otel_aggregate.specs.Any.{is_signed_value, amount_of}
+use Rattle.otel_aggregate.specs.Any.{amount_of}
 use Rattle.otel_aggregate.specs.Streams.{AggregateContents, AggregateState}
 use Rattle.otel_aggregate.specs.value_map.Numbers.{is_placed}
 use Rattle.otel_model.specs.Demands.{Demand}
@@ -21,7 +20,7 @@ use Rattle.otel_model.specs.Streams.{aggregate_of}
 use Rattle.otel_model.proofs.batches.Tables.{entry_for-on, entry_stays, settled-on, settled_stays, settled_rests}
 use Rattle.otel_model.proofs.batches.Writes.{write-keeps}
 use Rattle.opentelemetry_sdk.specs.pipeline.Known.{is_known_to}
-use Rattle.opentelemetry_sdk.specs.pipeline.Streams.{StreamContents, IsAsked, contents_of, used_for, with_record, contents_after_record}
+use Rattle.opentelemetry_sdk.specs.pipeline.Streams.{StreamContents, IsAsked, contents_of, used_for, with_record, contents_after_record, takes}
 
 -- ======== entries ========
 -- the entry that a set uses is there exactly if a place for the set changes nothing
@@ -81,32 +80,18 @@ module _ (l m : List KeyValue) (v : NumberValue) (k : StreamContents) (known : i
       settled-on k.stream.demand.limit (set_in m k) (entry_for (set_in l k) placed) written (write-keeps (sample_of (aggregate_of k.stream.demand) (amount_of v))) placed
       ∙ settled_stays k.stream.demand.limit empty_in (set_in m k) (set_in l k) (entries_in k) known
 
-  -- and uses the same entry
-  used-with : used_for (set_in m k) recorded ≡ used_for (set_in m k) k
-  used-with =
-      ap (entry_for (set_in m k)) (settled_rests k.stream.demand.limit empty_in (set_in m k) (entries_in recorded) known-with)
-      ∙ entry_for-on (set_in m k) (entry_for (set_in l k) placed) written (write-keeps (sample_of (aggregate_of k.stream.demand) (amount_of v))) placed
-      ∙ entry_stays k.stream.demand.limit empty_in (set_in m k) (set_in l k) (entries_in k) known
-      ∙ ap (entry_for (set_in m k)) (sym (settled_rests k.stream.demand.limit empty_in (set_in m k) (entries_in k) known))
-
   -- whether the value is taken in or not
   pub known-beside : is_known_to m (contents_after_record v l k).stream ≡ true
-  known-beside = by (beq (is_signed_value v) k.stream.demand.identity.signed)
-    where
-      by : (b : Bool) → is_known_to m (cond b recorded k).stream ≡ true
-      by true = known-with
-      by false = known
+  known-beside = cond_both (takes v k) recorded k (λ (h : StreamContents). is_known_to m h.stream ≡ true) (λ _. known-with) (λ _. known)
 
+  -- and it uses the same entry
   pub used-beside : used_for (set_in m (contents_after_record v l k)) (contents_after_record v l k) ≡ used_for (set_in m k) k
-  used-beside = by (beq (is_signed_value v) k.stream.demand.identity.signed)
-    where
-      by : (b : Bool) → used_for (set_in m (cond b recorded k)) (cond b recorded k) ≡ used_for (set_in m k) k
-      by true = used-with
-      by false = refl
-
--- a record of the attributes that are known
-pub known-recorded : (l : List KeyValue) (v : NumberValue) (k : StreamContents) → is_known_to l k.stream ≡ true → is_known_to l (contents_after_record v l k).stream ≡ true
-known-recorded l v k known = known-beside l l v k known
+  used-beside = cond_both (takes v k) recorded k (λ (h : StreamContents). used_for (set_in m h) h ≡ used_for (set_in m k) k)
+      (λ _. ap (entry_for (set_in m k)) (settled_rests k.stream.demand.limit empty_in (set_in m k) (entries_in recorded) known-with)
+      ∙ entry_for-on (set_in m k) (entry_for (set_in l k) placed) written (write-keeps (sample_of (aggregate_of k.stream.demand) (amount_of v))) placed
+      ∙ entry_stays k.stream.demand.limit empty_in (set_in m k) (set_in l k) (entries_in k) known
+      ∙ ap (entry_for (set_in m k)) (sym (settled_rests k.stream.demand.limit empty_in (set_in m k) (entries_in k) known)))
+      (λ _. refl)
 
 -- ======== what is prepared ========
 module _ (l : List KeyValue) (d : Demand) (a : AggregateContents) where

@@ -1,7 +1,7 @@
 -- What the answers of views demand.
-use Rattle.std.proofs.Common.{◌≡◌, ℕ, ◌+◌, ◌<◌, ℤ, Bool, true, cond, not, ◌&&◌, ◌||◌, List, [], ◌∷◌, ◌++◌, fold, take, get_or, length, Option, Some, None, is_some, is_none, refl, sym, ◌∙◌, ap, subst, append_assoc, add-one, append-nil}
+use Rattle.std.proofs.Common.{◌≡◌, ℕ, ◌+◌, ◌<◌, ℤ, Bool, true, cond, not, ◌&&◌, ◌||◌, List, [], ◌∷◌, ◌++◌, fold, take, get_or, length, Option, Some, None, is_some, is_none, refl, sym, ◌∙◌, ap, subst, append_assoc, append-nil}
 use Rattle.std.specs.List.{list_any}
-use Rattle.std.proofs.Math.Seq.{take-suc}
+use Rattle.std.proofs.lemmas.List.{take_more}
 use Rattle.std.proofs.lemmas.Bool.{and_parts}
 use Rattle.std.proofs.lemmas.List.Elements.{filter-append}
 use Rattle.otel_common.specs.declared.metrics.Aggregation.{Aggregation}
@@ -18,9 +18,8 @@ use Rattle.opentelemetry_sdk.specs.States.{IsGoodIn}
 use Rattle.opentelemetry_sdk.specs.pipeline.Pipelines.{AreMet, Piped, part_of, fates_of, some_stream}
 use Rattle.opentelemetry_sdk.specs.pipeline.Views.{views_answering, usable_answer, usable_demands, can_keep, is_unfit, has_none, demands_own}
 use Rattle.opentelemetry_sdk.proofs.pipeline.DemandLemmas.{default_from-parts}
-use Rattle.opentelemetry_sdk.proofs.pipeline.Feeds.{some-named}
 use Rattle.opentelemetry_sdk.proofs.pipeline.Meets.{demanded-fates, fed-some}
-use Rattle.opentelemetry_sdk.proofs.pipeline.Records.{numbers-named}
+use Rattle.opentelemetry_sdk.proofs.pipeline.Records.{numbers-named, some-named}
 
 -- ======== which aggregations can be used ========
 with_own-fits : (kind : InstrumentKind) (own : Option (List ℤ)) (a : Aggregation) → fits kind a ≡ true → fits kind (with_own kind own a) ≡ true
@@ -60,9 +59,7 @@ module _ (answers : ReaderAnswers) (scope : InstrumentationScope) (about : About
 
   -- one answer more
   pub usable-more : (l : List (Option StreamSpec)) (i : ℕ) (o : Option StreamSpec) → i < length l → o ≡ get_or l i o → usable (take (i + 1) l) ≡ usable (take i l) ++ usable-one o
-  usable-more l i o h e =
-      ap (λ n. usable (take n l)) (add-one i)
-      ∙ (ap usable (take-suc l i o h ∙ ap (λ x. take i l ++ x ∷ []) (sym e)) ∙ usable-push (take i l) o)
+  usable-more l i o h e = ap usable (take_more l i o h ∙ ap (λ x. take i l ++ x ∷ []) (sym e)) ∙ usable-push (take i l) o
 
   -- ======== whether the own stream is demanded ========
   is_empty-is : (l : List (Option StreamSpec)) → model.is_empty (demands l) ≡ not (list_any is_some l)

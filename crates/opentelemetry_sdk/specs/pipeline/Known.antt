@@ -1,6 +1,7 @@
 -- Attributes whose record makes no entry, so that it is never refused for lack of memory.
-use Rattle.std.specs.Prelude.{◌≡◌, ℕ, Bool, true, ◌&&◌, List, [], Option, None, Some, slice_get}
+use Rattle.std.specs.Prelude.{◌≡◌, ℕ, Bool, true, ◌&&◌, List, [], Option, IfSome, slice_get}
 use Rattle.std.specs.List.{list_any, list_all}
+use Rattle.std.specs.Option.{option_map}
 use Rattle.otel_common.specs.declared.attributes.KeyValue.{KeyValue}
 use Rattle.otel_model_stream.specs.Sets.{set_of}
 use Rattle.otel_model.specs.Calls.{or_else}
@@ -25,14 +26,12 @@ is_known_at n l p = list_all (is_known_by l p.streams) (or_else (slice_get p.fee
 
 -- the stream, if there is one, knows them
 abbrev pub IsKnownIfThere : List KeyValue → Option StreamContents → Type 0
-IsKnownIfThere l None = Unit {0}
-IsKnownIfThere l (Some k) = is_known_to l k.stream ≡ true
+IsKnownIfThere l o = IfSome o (λ k. is_known_to l k.stream ≡ true)
 
--- whether the stream, if there is one, doesn't drop and knows them
-abbrev pub is_known_there : List KeyValue → Option StreamContents → Bool
-is_known_there l None = true
-is_known_there l (Some k) = is_streamed k && is_known_to l k.stream
+-- whether the stream doesn't drop and knows them
+abbrev pub knows : List KeyValue → StreamContents → Bool
+knows l k = is_streamed k && is_known_to l k.stream
 
--- the same of the streams with these numbers
+-- the same of the streams with these numbers, as far as there are such
 abbrev pub are_known : List KeyValue → List StreamContents → List ℕ → Bool
-are_known l streams ns = list_all (λ n. is_known_there l (slice_get streams n)) ns
+are_known l streams ns = list_all (λ n. or_else (option_map (knows l) (slice_get streams n)) true) ns

@@ -1,5 +1,5 @@
 -- One reader's streams: as the model's part of a reader, and with what the model leaves out.
-use Rattle.std.specs.Prelude.{◌≡◌, ◌<◌, ℕ, Bool, not, cond, ◌||◌, true, false, List, [], ◌∷◌, ◌++◌, map, filter, fold, length, take, All, Option, None, Some, slice_get, position}
+use Rattle.std.specs.Prelude.{◌≡◌, ◌<◌, ℕ, Bool, not, cond, ◌||◌, true, false, List, [], ◌∷◌, ◌++◌, map, filter, fold, length, take, All, Option, None, Some, IfSome, slice_get, position}
 use Rattle.std.specs.List.{IsDistinct, AllByRecursion}
 use Rattle.otel_common.specs.declared.attributes.KeyValue.{KeyValue}
 use Rattle.otel_data.specs.declared.numbers.NumberValue.{NumberValue}
@@ -168,14 +168,9 @@ pub record IsReady (binds : Bool) (l : List KeyValue) (k : StreamContents) : Typ
   pub set : k.pending ≡ used_for (set_for k.stream.demand l) k ∷ []
   pub room : binds ≡ true → k.room ≡ not (is_drained k.stream.demand)
 
--- the same of a stream, if there is one
-abbrev pub IsReadyIfThere : Bool → List KeyValue → Option StreamContents → Type 0
-IsReadyIfThere binds l None = Unit {0}
-IsReadyIfThere binds l (Some k) = IsReady binds l k
-
--- the same of the streams with these numbers
+-- the same of the streams with these numbers, as far as there are such
 abbrev pub AreReady : Bool → List KeyValue → List StreamContents → List ℕ → Type 0
-AreReady binds l streams ns = All (λ n. IsReadyIfThere binds l (slice_get streams n)) ns
+AreReady binds l streams ns = All (λ n. IfSome (slice_get streams n) (IsReady binds l)) ns
 
 -- the instrument feeds only streams with this number type
 abbrev pub FeedsType : ℕ → Bool → ReaderPart → Type 0
@@ -196,10 +191,6 @@ changed_by f instrument p = record p { streams = changed_each f (fed_by instrume
 -- its part
 abbrev pub part_changed_by : (StreamContents → StreamContents) → ℕ → Piped → ReaderPart
 part_changed_by f instrument p = part_of (changed_by f instrument p)
-
--- for each stream whether it resets, and its demand, which no record changes
-abbrev pub terms_of : List StreamContents → List (Bool × Demand)
-terms_of streams = map {B = Bool × Demand} (λ (k : StreamContents). (k.resets, k.stream.demand)) streams
 
 -- ======== collections ========
 -- the streams after a collection at a moment

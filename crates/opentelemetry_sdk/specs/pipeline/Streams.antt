@@ -109,9 +109,13 @@ abbrev pub committed_by : Option AttributeSet → Amount → StreamContents → 
 committed_by None v h = h
 committed_by (Some s) v h = with_record s v h
 
+-- whether the stream has the number type of a value
+abbrev pub takes : NumberValue → StreamContents → Bool
+takes value k = beq (is_signed_value value) k.stream.demand.identity.signed
+
 -- after the prepared record of a value; a stream of the other number type doesn't change
 abbrev pub contents_after_commit : NumberValue → StreamContents → StreamContents
-contents_after_commit value k = cond (beq (is_signed_value value) k.stream.demand.identity.signed) (committed_by (next_of k.pending) (amount_of value) k) k
+contents_after_commit value k = cond (takes value k) (committed_by (next_of k.pending) (amount_of value) k) k
 
 -- once a record of these attributes is prepared beside the others, to be taken in before them
 abbrev pub contents_prepared : List KeyValue → StreamContents → StreamContents
@@ -127,7 +131,7 @@ contents_after_next values k = cond (is_next_placed k.pending k.stream.machine.t
 
 -- after a record of a value with attributes; a stream of the other number type doesn't change
 abbrev pub contents_after_record : NumberValue → List KeyValue → StreamContents → StreamContents
-contents_after_record value l h = cond (beq (is_signed_value value) h.stream.demand.identity.signed) (with_record (set_for h.stream.demand l) (amount_of value) h) h
+contents_after_record value l h = cond (takes value h) (with_record (set_for h.stream.demand l) (amount_of value) h) h
 
 -- after a record of each of these values, one after another
 abbrev pub contents_after_each : List NumberValue → List KeyValue → StreamContents → StreamContents
@@ -144,10 +148,6 @@ bound_by None h k = k
 bound_by (Some s) h k = record (with_event (Event.Bind h s) k) { room = false }
 
 -- ======== changes ========
--- whether the stream has the number type of a value
-abbrev pub takes : NumberValue → StreamContents → Bool
-takes value k = beq (is_signed_value value) k.stream.demand.identity.signed
-
 -- after a change. A stream of the other number type takes no record in. A bind needs room, and a number that no live handle
 -- has; a stream of an observable instrument has no handles, and so has one that is drained
 abbrev pub contents_after : Change → StreamContents → StreamContents

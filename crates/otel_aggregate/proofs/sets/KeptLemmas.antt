@@ -1,8 +1,7 @@
 -- What an allow-list keeps, one attribute after another.
-use Rattle.std.proofs.Common.{arith, ℕ, ◌+◌, ◌-◌, ◌<◌, ◌≤◌, ◌≡◌, ◌∙◌, List, [], ◌∷◌, Bool, true, cond, None, Some, drop, length, slice_index_or, refl, ap, sym, subst, ◌&&◌}
+use Rattle.std.proofs.Common.{arith, ℕ, ◌+◌, ◌-◌, ◌<◌, ◌≤◌, ◌≡◌, ◌∙◌, List, [], ◌∷◌, Bool, cond, None, Some, drop, length, slice_index_or, refl, ap, sym}
 use Rattle.std.proofs.lemmas.List.{drop_more}
 use Rattle.std.proofs.Math.ListN.{drop_of_length-le}
-use Rattle.otel_common.specs.Equality.{set_eq, key_value_eq}
 use Rattle.otel_common.specs.declared.attributes.KeyValue.{KeyValue}
 use Rattle.otel_model_stream.specs.Sets.{AllowList, allowed_part}
 use Rattle.otel_aggregate.specs.sets.Keys.{is_kept}
@@ -39,17 +38,3 @@ kept-before allow l left x b some within at e =
     inside = omega (arith, some, within)
 
 -- ======== lists compared attribute by attribute ========
--- two lists from the i-th attribute on
-pub same-step : (a b : List KeyValue) (i : ℕ) (x y : KeyValue) → i < length a → length a ≡ length b → x ≡ slice_index_or a i x → y ≡ slice_index_or b i y
-    → set_eq (drop i a) (drop i b) ≡ (key_value_eq x y && set_eq (drop (i + 1) a) (drop (i + 1) b))
-same-step a b i x y within as_long here there =
-    let left : drop i a ≡ x ∷ drop (i + 1) a = drop_more a i x within ∙ ap (λ z. z ∷ drop (i + 1) a) (sym here) in
-    let right : drop i b ≡ y ∷ drop (i + 1) b = drop_more b i y (subst (λ n. i < n) as_long within) ∙ ap (λ z. z ∷ drop (i + 1) b) (sym there) in
-    λ j. set_eq (left j) (right j)
-
--- nothing is left of either
-pub same-end : (a b : List KeyValue) (i : ℕ) → length a ≤ i → length a ≡ length b → set_eq (drop i a) (drop i b) ≡ true
-same-end a b i past as_long =
-    let left : drop i a ≡ [] = drop_of_length-le a past in
-    let right : drop i b ≡ [] = drop_of_length-le b (subst (λ n. n ≤ i) as_long past) in
-    λ j. set_eq (left j) (right j)

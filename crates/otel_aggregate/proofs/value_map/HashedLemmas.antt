@@ -1,5 +1,6 @@
 -- Keys with hashes, looked up as their sets.
 use Rattle.std.proofs.Common.{ℕ, ◌≡◌, ◌==◌, Bool, true, false, cond, ◌&&◌, List, [], ◌∷◌, map, Some, refl, sym, ap, ◌∙◌}
+use Rattle.std.proofs.Math.Bool.{and-false}
 use Rattle.std.specs.Cmp.{unsigned_Decides}
 use Rattle.std.specs.List.{AllByRecursion}
 use Rattle.std.specs.Map.{lookup}
@@ -12,15 +13,11 @@ use Rattle.otel_aggregate.specs.declared.value_map.hashing.SetHashBuilder.{SetHa
 eq-hashed : (b : SetHashBuilder) (q k : HashedKey) → IsHashedBy b q → IsHashedBy b k → hashed_eq q k ≡ set_eq q.key k.key
 eq-hashed b q k hq hk = by (set_eq q.key k.key) refl
   where
-    none : (c : Bool) → (c && false) ≡ false
-    none true = refl
-    none false = refl
-
     by : (s : Bool) → set_eq q.key k.key ≡ s → ((q.hash == k.hash) && s) ≡ s
     by true e =
         let same : q.hash ≡ k.hash = hq ∙ ap (λ s. (fed_set b s).state) ((set_eq-Decides q.key k.key).0 e) ∙ sym hk in
         ap (λ c. c && true) ((unsigned_Decides q.hash k.hash).1 same)
-    by false e = none (q.hash == k.hash)
+    by false e = and-false (q.hash == k.hash)
 
 module _ (b : SetHashBuilder) (q : HashedKey) (hq : IsHashedBy b q) where
   -- so a key leads where its set does

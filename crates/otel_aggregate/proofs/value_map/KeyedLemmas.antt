@@ -4,6 +4,7 @@ use Rattle.std.specs.List.{AllByRecursion, IsDistinct}
 use Rattle.std.specs.Map.{lookup, keys_of, values_of}
 use Rattle.std.specs.Set.{is_member}
 use Rattle.std.specs.Option.{IfNone, IfSome}
+use Rattle.std.proofs.Math.Bool.{or_comm}
 use Rattle.std.proofs.lemmas.Map.Keys.{IsDistinct-head, IsDistinct-tail}
 use Rattle.std.proofs.lemmas.List.{length-map}
 use Rattle.std.proofs.lemmas.List.Elements.{All-from_recursion}
@@ -40,13 +41,7 @@ same_number n = grind (arith, nat_tests)
 
 -- the test of sets is the same both ways round
 pub set_eq-flip : (a b : AttributeSet) → set_eq a b ≡ set_eq b a
-set_eq-flip a b = by (set_eq a b) (set_eq b a) refl refl
-  where
-    by : (x y : Bool) → set_eq a b ≡ x → set_eq b a ≡ y → x ≡ y
-    by true true p q = refl
-    by false false p q = refl
-    by true false p q = sym ((set_eq-Decides b a).1 (sym ((set_eq-Decides a b).0 p))) ∙ q
-    by false true p q = sym p ∙ (set_eq-Decides a b).1 (sym ((set_eq-Decides b a).0 q))
+set_eq-flip a b = set_eq_equiv.symm a b
 
 pub entry-set : (s : AttributeSet) (o : Option Kept) → (entry_of s o).set ≡ s
 entry-set s None = refl
@@ -155,13 +150,7 @@ pub found_known : (look : Look) (es gs : List Keyed) (l : List KeyValue) → is_
 found_known look es gs l =
     some_first (lookup (set_eq l) es) (lookup (set_eq l) gs)
     ∙ (λ i. sym (has_lookup l look es) i || is_some-lookup (set_eq l) gs i)
-    ∙ or-flip (has l (map (entry_at look) es)) (is_member set_eq (keys_of gs) l)
-  where
-    or-flip : (a b : Bool) → (a || b) ≡ (b || a)
-    or-flip true true = refl
-    or-flip true false = refl
-    or-flip false true = refl
-    or-flip false false = refl
+    ∙ or_comm (has l (map (entry_at look) es)) (is_member set_eq (keys_of gs) l)
 
 -- what a list leads to is the entry of its set
 pub found_placed : (look : Look) (none : ℕ) (es gs : List Keyed) (l : List KeyValue) (o : Option ℕ) → IsConsistent look none es gs → o ≡ found l es gs

@@ -1,11 +1,13 @@
 -- Where a record's entry is, once its set has a place.
-use Rattle.std.proofs.Common.{ℕ, suc, ◌-◌, ◌^◌, ◌<◌, ◌≡◌, List, [], ◌∷◌, ◌++◌, nat_lt, Bool, true, false, cond, ◌||◌, Option, Some, None, append-nil, length, map, reverse, true≢false, ne_eqb, slice_get, refl, ap, arith, subst, sym, ◌∙◌}
+use Rattle.std.proofs.Common.{ℕ, suc, ◌-◌, ◌^◌, ◌<◌, ◌≡◌, List, [], ◌∷◌, ◌++◌, nat_lt, Bool, true, false, cond, ◌||◌, Option, Some, None, append-nil, length, map, reverse, true≢false, ne_eqb, take, get_or, slice_get, refl, ap, arith, subst, sym, ◌∙◌}
 use Rattle.std.specs.List.{AllByRecursion}
 use Rattle.std.specs.Map.{lookup, keys_of}
 use Rattle.std.specs.Global.{Vec}
 use Rattle.std.specs.Option.{option_to_list}
 use Rattle.std.specs.Prelude.{IfSome, not, ◌==◌}
-use Rattle.std.proofs.lemmas.List.{length-append, map-append, reverse-append}
+use Rattle.std.proofs.lemmas.List.{map-append, reverse-append}
+use Rattle.std.proofs.Math.Bool.{or-false}
+use Rattle.std.proofs.lemmas.Option.{slice_get-get_or}
 use Rattle.std.proofs.lemmas.Bool.{cond_both, or_left, or_right, or_parts}
 use Rattle.std.proofs.lemmas.List.Folds.{list_any-append}
 use Rattle.otel_common.specs.Canonical.{canon}
@@ -16,7 +18,6 @@ use Rattle.otel_model_stream.specs.Sets.{AttributeSet, none_set, over_set}
 use Rattle.otel_model_stream.specs.Entries.{Entry, Table, new_entry, is_of, has, number_counted, entries_with_place, entry_for, place, at_entry, write, take_handle}
 use Rattle.otel_model_stream.specs.Maps.{MapState, with_place, measured_map, measured_list, bound_map, bound_to}
 use Rattle.otel_aggregate.specs.value_map.Keyed.{Slotted, IsNew}
-use Rattle.otel_aggregate.specs.value_map.Slots.{Kept, entry_of, new_kept}
 use Rattle.otel_aggregate.specs.value_map.Numbers.{Numbers, number_of, KeepNumbers, is_placed, set_named, handles_in, handles_at}
 use Rattle.otel_aggregate.specs.value_map.Contents.{IsPlan, IsPlanAt, IsSound, IsReady, NamesEntry, is_new, is_next_placed, next_of, pending_in, sets_named, used_by}
 use Rattle.otel_aggregate.specs.declared.value_map.pending.Pending.{Pending}
@@ -54,19 +55,11 @@ module _ (limit : ℕ) (empty : Fold) (s : AttributeSet) (entries : List Entry) 
     pub place-over_made : nat_lt (number_counted entries) limit ≡ false → has over_set entries ≡ false → Placing limit empty s entries (entries ++ new_entry empty over_set false ∷ []) over_set
     place-over_made full gone = record { state = rw (some, away, full, gone) refl; goal = ap (λ b. cond b none_set (cond (has s (entries ++ new_entry empty over_set false ∷ [])) s over_set)) some ∙ to (has s (entries ++ new_entry empty over_set false ∷ [])) refl }
       where
-        flat : (b : Bool) → (b || false) ≡ true → b ≡ true
-        flat true e = refl
-        flat false e = e
-
         to : (b : Bool) → has s (entries ++ new_entry empty over_set false ∷ []) ≡ b → cond b s over_set ≡ over_set
         to false h = refl
         to true h =
             let one : (set_eq over_set s || false) ≡ true = ap (λ b. b || (set_eq over_set s || false)) (sym away) ∙ sym (list_any-append (is_of s) entries (new_entry empty over_set false ∷ [])) ∙ h in
-            sym (same_set over_set s (flat (set_eq over_set s) one))
-
--- what a placing says of the whole state
-as_state : (st : MapState) (s : AttributeSet) (t : Table) (goal : AttributeSet) → t.none ≡ st.table.none → Placing st.limit st.empty s st.table.entries t.entries goal → record st { table = t } ≡ with_place s st
-as_state st s t goal none p = λ i. record st { table = record { none = none i; entries = p.state i } }
+            sym (same_set over_set s (sym (or-false (set_eq over_set s)) ∙ one))
 
 -- a record of a set that uses an entry that is there
 pub measured-by : (m : MapState) (s : AttributeSet) (v : Sample) (used : AttributeSet) → Placing m.limit m.empty s m.table.entries m.table.entries used → measured_map s v m ≡ record m { table = at_entry used (write v) m.table }
@@ -137,9 +130,6 @@ pub used-held : (m : MapState) (s : AttributeSet) → bound_map (bound_to s m) m
 used-held m s = λ i. record (used-placed m s i) { table = at_entry (used-own m s i) take_handle (used-placed m s i).table }
 
 -- ======== what is prepared ========
-pub sound-nothing : (t : Slotted) (few room : Bool) (p : Pending) → p ≡ Nothing → IsSound t few room p
-sound-nothing t few room p is = subst (IsSound t few room) (sym is) tt
-
 -- and the one that is new
 pub new-prepared : (t : Slotted) (few room : Bool) (p : Pending) (set : AttributeSet) (list : Option (List KeyValue)) → IsSound t few room p → New set list ≡ p → IsReady t few room set list
 new-prepared t few room p set list sound is = subst (IsSound t few room) (sym is) sound
@@ -165,86 +155,53 @@ module _ (t after : Slotted) (x : AttributeSet) (f : Entry → Entry) (keeps : (
   sound-changed few room now_few now_room (New set list) old sound = absurd (true≢false old)
   sound-changed few room now_few now_room (Several ns) old sound = all-named ns.items sound
 
--- the numbers with one more
-numbers-added : (old new : Numbers) (s : AttributeSet) (n : ℕ) → new.none ≡ old.none → new.sets ≡ old.sets ++ (s, n) ∷ [] → IsNew old.sets s → KeepNumbers old new × (number_of s new ≡ Some n)
-numbers-added old new s n none sets fresh_set =
-    let is : new ≡ record { none = old.none; sets = old.sets ++ (s, n) ∷ [] } = λ i. record { none = none i; sets = sets i } in (
-      subst (KeepNumbers old) (sym is) (numbers-pushed old.none old.sets (s, n)),
-      ap (number_of s) is ∙ ap (λ b. cond b (Some old.none) (lookup (set_eq s) (old.sets ++ (s, n) ∷ []))) fresh_set.some ∙ lookup-pushed s old.sets n fresh_set.absent,
+-- with one more entry the others keep their numbers, and its set uses it
+pub number-added : (t after : Slotted) (n : ℕ) (s : AttributeSet) (e : Entry) → IsNew t.numbers.sets s → after.table ≡ record t.table { entries = t.table.entries ++ e ∷ [] } → e.set ≡ s → after.numbers.none ≡ t.numbers.none → after.numbers.sets ≡ t.numbers.sets ++ (s, n) ∷ []
+    → KeepNumbers t.numbers after.numbers × (number_of (entry_for s after.table.entries) after.numbers ≡ Some n)
+number-added t after n s e new table same none sets =
+    let is : after.numbers ≡ record { none = t.numbers.none; sets = t.numbers.sets ++ (s, n) ∷ [] } = λ i. record { none = none i; sets = sets i } in
+    let there : has s after.table.entries ≡ true = ap (λ (x : Table). has s x.entries) table ∙ has-last s t.table.entries e (ap (λ (x : AttributeSet). set_eq x s) same ∙ set_eq-self s) in
+    let used : entry_for s after.table.entries ≡ s = rw (new.some, there) refl in (
+      subst (KeepNumbers t.numbers) (sym is) (numbers-pushed t.numbers.none t.numbers.sets (s, n)),
+      ap (λ (x : AttributeSet). number_of x after.numbers) used
+          ∙ ap (number_of s) is
+          ∙ ap (λ b. cond b (Some t.numbers.none) (lookup (set_eq s) (t.numbers.sets ++ (s, n) ∷ []))) new.some
+          ∙ lookup-pushed s t.numbers.sets n new.absent,
     )
 
--- a new entry of the set `used` is the one that the set uses
-pub record Placed (limit : ℕ) (empty : Fold) (t after : Slotted) (n : ℕ) (s : AttributeSet) : Type 0 where
-  pub state : record { limit = limit; empty = empty; table = after.table } ≡ with_place s (record { limit = limit; empty = empty; table = t.table })
-  pub number : number_of (entry_for s after.table.entries) after.numbers ≡ Some n
-  pub numbers : KeepNumbers t.numbers after.numbers
-
-pub placed : (limit : ℕ) (empty : Fold) (t after : Slotted) (n : ℕ) (s used : AttributeSet) (counted lasting : Bool) (slot : Kept) → Placing limit empty s t.table.entries (t.table.entries ++ new_entry empty used counted ∷ []) used → IsNew t.numbers.sets used
-    → slot ≡ new_kept empty counted lasting → after.table ≡ record t.table { entries = t.table.entries ++ entry_of used (Some slot) ∷ [] } → after.numbers.none ≡ t.numbers.none → after.numbers.sets ≡ t.numbers.sets ++ (used, n) ∷ [] → Placed limit empty t after n s
-placed limit empty t after n s used counted lasting slot place new made table none sets =
-    let entries : after.table.entries ≡ t.table.entries ++ new_entry empty used counted ∷ [] = ap (λ (x : Table). x.entries) table ∙ ap (λ (k : Kept). t.table.entries ++ entry_of used (Some k) ∷ []) made in
-    let p : Placing limit empty s t.table.entries after.table.entries used = subst (λ (es : List Entry). Placing limit empty s t.table.entries es used) (sym entries) place in
-    let added = numbers-added t.numbers after.numbers used n none sets new in
-    record {
-      state = as_state (record { limit = limit; empty = empty; table = t.table }) s after.table used (ap (λ (x : Table). x.none) table) p;
-      number = ap (λ (x : AttributeSet). number_of x after.numbers) p.goal ∙ added.1;
-      numbers = added.0;
-    }
-
--- nothing is prepared any more
-pub sound-spent : (t : Slotted) (few room : Bool) (ns : Numbers) (p : Pending) → pending_in ns p ≡ [] → IsSound t few room p
-sound-spent t few room ns Nothing e = tt
-sound-spent t few room ns (At n) e = absurd (cc)
-sound-spent t few room ns (New set list) e = absurd (cc)
-sound-spent t few room ns (Several numbers) e = by numbers.items e
-  where
-    by : (ks : List ℕ) → sets_named ns ks ≡ [] → AllByRecursion (NamesEntry t) ks
-    by [] e = tt
-    by (k ∷ ks) e = absurd (omega (arith, ap length (sym (reverse-append (set_named k ns ∷ []) (map (λ (n : ℕ). set_named n ns) ks)) ∙ e), length-append (sets_named ns ks) (set_named k ns ∷ [])))
-
 -- ======== several records ========
--- the last of these numbers names the next set
-named-push : (ns : Numbers) (ks : List ℕ) (k : ℕ) → sets_named ns (ks ++ k ∷ []) ≡ set_named k ns ∷ sets_named ns ks
-named-push ns ks k = ap reverse (map-append (λ (n : ℕ). set_named n ns) ks (k ∷ [])) ∙ reverse-append (map (λ (n : ℕ). set_named n ns) ks) (set_named k ns ∷ [])
+-- the last of these numbers stands apart
+pub last-apart : (ks : List ℕ) → ks ≡ take (length ks - 1) ks ++ option_to_list (slice_get ks (length ks - 1))
+last-apart [] = refl
+last-apart (k ∷ []) = refl
+last-apart (k ∷ j ∷ js) =
+    let one : suc (length (j ∷ js) - 1) ≡ length (k ∷ j ∷ js) - 1 = omega arith in
+    ap (λ ls. k ∷ ls) (last-apart (j ∷ js)) ∙ ap (λ i. take i (k ∷ j ∷ js) ++ option_to_list (slice_get (k ∷ j ∷ js) i)) one
 
 module _ (t : Slotted) where
   all-last : (ks : List ℕ) (k : ℕ) → AllByRecursion (NamesEntry t) (ks ++ k ∷ []) → NamesEntry t k
   all-last [] k all = all.0
   all-last (j ∷ js) k all = all-last js k all.1
 
-  -- the number that is taken out
+  -- it names the next set
+  next-last : (ks rest : List ℕ) (n : ℕ) → ks ≡ rest ++ n ∷ [] → AllByRecursion (NamesEntry t) ks → NamesEntry t n × (sets_named t.numbers ks ≡ set_named n t.numbers ∷ sets_named t.numbers rest)
+  next-last ks rest n e all = (
+    all-last rest n (subst (AllByRecursion (NamesEntry t)) e all),
+    ap (sets_named t.numbers) e ∙ ap reverse (map-append (λ (m : ℕ). set_named m t.numbers) rest (n ∷ [])) ∙ reverse-append (map (λ (m : ℕ). set_named m t.numbers) rest) (set_named n t.numbers ∷ []),
+  )
+
+  -- as does the one that is taken out
   pub next-taken : (ks rest : List ℕ) (r : Option ℕ) → ks ≡ rest ++ option_to_list r → AllByRecursion (NamesEntry t) ks → IfSome r (λ n. NamesEntry t n × (next_of (sets_named t.numbers ks) ≡ Some (set_named n t.numbers)))
   next-taken ks rest None e all = tt
-  next-taken ks rest (Some n) e all = (all-last rest n (subst (AllByRecursion (NamesEntry t)) e all), ap (λ js. next_of (sets_named t.numbers js)) e ∙ ap next_of (named-push t.numbers rest n))
-
-  next-append : (ss : List AttributeSet) (s : AttributeSet) → is_next_placed ss t.table.entries ≡ true → is_next_placed (ss ++ s ∷ []) t.table.entries ≡ true
-  next-append [] s e = absurd (true≢false (sym e))
-  next-append (r ∷ rs) s e = e
-
-  next-named : (k : ℕ) (ks : List ℕ) → AllByRecursion (NamesEntry t) (k ∷ ks) → is_next_placed (sets_named t.numbers (k ∷ ks)) t.table.entries ≡ true
-  next-named k [] all = all.0.1
-  next-named k (j ∷ js) all =
-      ap (λ ss. is_next_placed ss t.table.entries) (reverse-append (set_named k t.numbers ∷ []) (map (λ (n : ℕ). set_named n t.numbers) (j ∷ js)))
-      ∙ next-append (sets_named t.numbers (j ∷ js)) (set_named k t.numbers) (next-named j js all.1)
-
-  next-still : (ss : List AttributeSet) (r s : AttributeSet) → next_of ss ≡ Some r → next_of (ss ++ s ∷ []) ≡ Some r
-  next-still [] r s e = absurd (cc)
-  next-still (q ∷ qs) r s e = e
-
-  pub last-named : (ks : List ℕ) (n : ℕ) → Some n ≡ slice_get ks (length ks - 1) → AllByRecursion (NamesEntry t) ks → NamesEntry t n × (next_of (sets_named t.numbers ks) ≡ Some (set_named n t.numbers))
-  last-named [] n e all = absurd (cc)
-  last-named (k ∷ []) n e all = let same : k ≡ n = cc in (subst (NamesEntry t) same all.0, ap (λ m. Some (set_named m t.numbers)) same)
-  last-named (k ∷ j ∷ js) n e all =
-      let one : length (k ∷ j ∷ js) - 1 ≡ suc (length (j ∷ js) - 1) = omega arith in
-      let rest = last-named (j ∷ js) n (e ∙ ap (slice_get (k ∷ j ∷ js)) one) all.1 in (
-        rest.0,
-        ap next_of (reverse-append (set_named k t.numbers ∷ []) (map (λ (m : ℕ). set_named m t.numbers) (j ∷ js))) ∙ next-still (sets_named t.numbers (j ∷ js)) (set_named n t.numbers) (set_named k t.numbers) rest.1,
-      )
+  next-taken ks rest (Some n) e all = let one = next-last ks rest n e all in (one.0, ap next_of one.1)
 
   -- there is a next set exactly if there is a number
   pub entry-there : (ks : List ℕ) (n : ℕ) → n ≡ length ks → AllByRecursion (NamesEntry t) ks → not (n == 0) ≡ is_next_placed (sets_named t.numbers ks) t.table.entries
   entry-there [] n e all = ap (λ m. not (m == 0)) e
-  entry-there (k ∷ ks) n e all = ap not (ne_eqb n 0 (λ q. omega (arith, e, q))) ∙ sym (next-named k ks all)
+  entry-there (k ∷ ks) n e all =
+      let i : ℕ = length (k ∷ ks) - 1 in
+      let one = next-last (k ∷ ks) (take i (k ∷ ks)) (get_or (k ∷ ks) i k) (last-apart (k ∷ ks) ∙ ap (λ o. take i (k ∷ ks) ++ option_to_list o) (slice_get-get_or (k ∷ ks) i k (omega arith))) all in
+      ap not (ne_eqb n 0 (λ q. omega (arith, e, q))) ∙ sym (ap (λ ss. is_next_placed ss t.table.entries) one.1 ∙ one.0.1)
 
 -- ======== handles ========
 few-push : (x : AttributeSet) (es : List Entry) (e : Entry) (n : ℕ) → 0 < n → e.handles ≡ 0 → handles_in x es < n → handles_in x (es ++ e ∷ []) < n

@@ -1,7 +1,7 @@
 -- What a record is to do, in a map.
 use Rattle.std.proofs.Common.{◌≡◌, Bool, true, false, cond, not, ◌||◌, ◌&&◌, List, [], ◌∷◌, Option, Some, None, is_some, ℕ, refl, sym, ap, subst, ◌∙◌, true≢false}
 use Rattle.std.specs.Map.{lookup, keys_of}
-use Rattle.std.specs.Prelude.{IfOk, Result, Ok, Err}
+use Rattle.std.specs.Prelude.{IfOk, IsTrue, Result, Ok, Err}
 use Rattle.std.specs.Set.{is_member}
 use Rattle.std.proofs.lemmas.Bool.{and_right, or_parts}
 use Rattle.std.proofs.lemmas.Map.Made.{is_some-lookup}
@@ -12,7 +12,6 @@ use Rattle.otel_common.specs.declared.faults.Fault.{Fault}
 use Rattle.otel_common.proofs.CanonLaws.{canon-canon}
 use Rattle.otel_model_stream.specs.Sets.{AttributeSet, none_set, over_set}
 use Rattle.otel_model_stream.specs.Entries.{Entry, has}
-use Rattle.otel_model_stream.specs.Maps.{KnownMap, knows}
 use Rattle.otel_aggregate.specs.value_map.Keyed.{Slotted, IsNew, IsSpelling}
 use Rattle.otel_aggregate.specs.value_map.Numbers.{number_of, set_named, named_in, is_placed, AreNumbered, IsNumberOf}
 use Rattle.otel_aggregate.specs.value_map.Contents.{IsPlan, IsPlanPast, IsSound, IsReady, is_there, leads, list_of, used_by}
@@ -38,8 +37,6 @@ plan-empty t few l e =
     record {
       pending = ap (λ s. s ∷ []) named ∙ ap (λ s. used_by few s t.table.entries ∷ []) (sym bare);
       spelling = sym (ap (λ s. cond ((not (set_eq s none_set) && (not (has s t.table.entries) && few)) && not (set_eq s l)) (l ∷ []) []) bare);
-      single = refl;
-      away = λ e. absurd (true≢false (sym e));
       sound = λ room ready. (ap (λ s. number_of s t.numbers) named, ap (λ s. set_eq s none_set || has s t.table.entries) named);
     }
 
@@ -88,8 +85,6 @@ module _ (t : Slotted) (l : List KeyValue) (unled : leads l t ≡ false) (away :
   plan-over n at there = record {
     pending = ap (λ s. s ∷ []) (at.named ∙ sym (used-new false (canon l) t.table.entries bare away));
     spelling = sym (unadmitted t l);
-    single = refl;
-    away = λ e. away;
     sound = λ room ready. (ap (λ s. number_of s t.numbers) at.named ∙ at.number, ap (λ s. is_placed s t.table.entries) at.named ∙ there);
   }
 
@@ -98,8 +93,6 @@ module _ (t : Slotted) (l : List KeyValue) (unled : leads l t ≡ false) (away :
   plan-over_new set is absent gone = record {
     pending = ap (λ s. s ∷ []) (is ∙ sym (used-new false (canon l) t.table.entries bare away));
     spelling = sym (unadmitted t l);
-    single = refl;
-    away = λ e. away;
     sound = λ room ready. subst (λ s. IsReady t false room s None) (sym is) (record { new = record { absent = absent; canonical = canon-over; some = refl }; absent = gone; spelling = tt; past = λ e. refl; ready = ready });
   }
 
@@ -123,8 +116,6 @@ module _ (t : Slotted) (l : List KeyValue) (unled : leads l t ≡ false) (away :
     plan-admitted set o is e = record {
       pending = ap (λ s. s ∷ []) (is ∙ sym (used-new true (canon l) t.table.entries bare away));
       spelling = listed (set_eq (canon l) l) o e ∙ (λ i. cond ((not (sym bare i) && (not (sym away i) && true)) && not (set_eq (canon l) l)) (l ∷ []) []);
-      single = refl;
-      away = λ e. away;
       sound = λ room ready. subst (λ s. IsReady t true room s o) (sym is) (record { new = new; absent = away; spelling = spelled (set_eq (canon l) l) refl o e; past = λ f. absurd (true≢false f); ready = ready });
     }
 
@@ -133,17 +124,14 @@ pub past-planned : (t : Slotted) (few : Bool) (l : List KeyValue) (r : Result Pe
 past-planned t few l (Ok p) past unled away plan = subst (λ b. IsPlan t b l p) (sym past) (plan l unled away)
 past-planned t few l (Err e) past unled away plan = tt
 
--- it doesn't depend on the room of the table itself
-pub sound-same : (t n : Slotted) (few room : Bool) (p : Pending) → n.table ≡ t.table → n.numbers ≡ t.numbers → n.aliases ≡ t.aliases → IsSound t few room p → IsSound n few room p
-sound-same t n few room p table numbers aliases sound =
-    anew p (subst (λ (x : Slotted). IsSound x few room p) (λ i. record { table = sym table i; numbers = sym numbers i; aliases = sym aliases i; room = t.room }) sound)
+-- it can be carried out with room for a new set, and doesn't depend on the room of the table itself
+pub sound-planned : (t n : Slotted) (few room : Bool) (p : Pending) → n.table ≡ t.table → n.numbers ≡ t.numbers → n.aliases ≡ t.aliases → ((set : AttributeSet) (list : Option (List KeyValue)) → p ≡ New set list → IsTrue room)
+    → ((room : Bool) → IsTrue room → IsSound t few room p) → IsSound n few room p
+sound-planned t n few room p table numbers aliases ready sound =
+    anew p ready (subst (λ (x : Slotted). (room : Bool) → IsTrue room → IsSound x few room p) (λ i. record { table = sym table i; numbers = sym numbers i; aliases = sym aliases i; room = t.room }) sound)
   where
-    anew : (p : Pending) → IsSound (record n { room = t.room }) few room p → IsSound n few room p
-    anew Nothing s = tt
-    anew (At k) s = s
-    anew (Several ks) s = s
-    anew (New set list) s = record { new = s.new; absent = s.absent; spelling = s.spelling; past = s.past; ready = s.ready }
-
--- a list that isn't known isn't empty
-pub unknown-some : (l : List KeyValue) (k : KnownMap) → knows l k ≡ false → set_eq l none_set ≡ false
-unknown-some l k e = (or-none (set_eq l none_set) (is_member set_eq k.given l) (has l k.map_state.table.entries) e).0
+    anew : (p : Pending) → ((set : AttributeSet) (list : Option (List KeyValue)) → p ≡ New set list → IsTrue room) → ((room : Bool) → IsTrue room → IsSound (record n { room = t.room }) few room p) → IsSound n few room p
+    anew Nothing r s = tt
+    anew (At k) r s = s true refl
+    anew (Several ks) r s = s true refl
+    anew (New set list) r s = let one = s room (r set list refl) in record { new = one.new; absent = one.absent; spelling = one.spelling; past = one.past; ready = one.ready }

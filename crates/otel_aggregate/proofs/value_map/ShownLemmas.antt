@@ -1,10 +1,10 @@
 -- What a draining collection shows of one set, and how many handles its entry has.
 use Rattle.std.proofs.Common.{ℕ, ◌≡◌, List, [], ◌∷◌, ◌++◌, map, filter, Bool, true, false, cond, ◌||◌, ◌&&◌, Option, Some, None, is_some, refl, ap, sym, ◌∙◌, true≢false}
+use Rattle.std.proofs.Math.Bool.{and-false}
 use Rattle.std.specs.List.{AllByRecursion, IsDistinct}
 use Rattle.std.specs.Map.{lookup, keys_of}
 use Rattle.std.specs.Option.{option_map}
 use Rattle.otel_common.specs.Equality.{set_eq}
-use Rattle.otel_model_stream.specs.Folds.{Fold}
 use Rattle.otel_model_stream.specs.Sets.{AttributeSet, none_set}
 use Rattle.otel_model_stream.specs.Entries.{Entry, point_of_entry, points}
 use Rattle.otel_model_stream.specs.Observed.{fold_in}
@@ -59,14 +59,10 @@ module _ (look : Look) (none : ℕ) (es gs : List Keyed) (laws : IsConsistent lo
       by true = refl
       by false = fold_in-absent s look es (none-absent look s es laws.fits e)
 
-  some-first : (b : Bool) (f : Fold) (o : Option Fold) → cond (b && false) (Some f) o ≡ o
-  some-first true f o = refl
-  some-first false f o = refl
-
   pub shown-some : set_eq s none_set ≡ false → fold_in (points true (table_at look none es)) s ≡ fold_in (shown_of true (map (entry_at look) es)) s
   shown-some e =
       after_none (entry_at look (none_set, none)).updated (entry_at look (none_set, none)) (filter (λ (x : Entry). true || x.updated) (map (entry_at look) es)) false (hit s look (none_set, none) ∙ e)
-      ∙ some-first (entry_at look (none_set, none)).updated (entry_at look (none_set, none)).fold (fold_in (shown_of true (map (entry_at look) es)) s)
+      ∙ ap (λ b. cond b (Some (entry_at look (none_set, none)).fold) (fold_in (shown_of true (map (entry_at look) es)) s)) (and-false (entry_at look (none_set, none)).updated)
 
 -- the handles in the slot of a set are those of its entry
 handles-among : (s : AttributeSet) (look : Look) (es : List Keyed) (n : ℕ) → lookup (set_eq s) es ≡ Some n → handles_in s (map (entry_at look) es) ≡ (entry_at look (s, n)).handles

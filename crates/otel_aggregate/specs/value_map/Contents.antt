@@ -61,13 +61,6 @@ is_new (At n) = false
 is_new (New s list) = true
 is_new (Several numbers) = false
 
--- whether several records may be prepared
-abbrev pub are_several : Pending → Bool
-are_several Nothing = false
-are_several (At n) = false
-are_several (New s list) = false
-are_several (Several numbers) = true
-
 -- the list that the prepared record or bind adds, if any
 abbrev pub spelling_in : Pending → List (List KeyValue)
 spelling_in Nothing = []
@@ -115,8 +108,6 @@ is_there_in s m = is_there (nat_lt (number_counted m.table.entries) m.limit) s m
 pub record IsPlan (t : Slotted) (few : Bool) (l : List KeyValue) (plan : Pending) : Type 0 where
   pub pending : pending_in t.numbers plan ≡ used_by few (canon l) t.table.entries ∷ []
   pub spelling : spelling_in plan ≡ cond ((not (set_eq (canon l) none_set) && (not (has (canon l) t.table.entries) && few)) && not (set_eq (canon l) l)) (l ∷ []) []
-  pub single : are_several plan ≡ false
-  pub away : IsTrue (is_new plan) → has (canon l) t.table.entries ≡ false
   pub sound : (room : Bool) → IsTrue room → IsSound t few room plan
 
 -- past the limit, the plan is what a record or bind of any list whose set has no entry is to do

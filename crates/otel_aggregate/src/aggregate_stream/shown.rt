@@ -61,7 +61,7 @@ impl<'a, T: Number + Drop> PointMaker<AnyAggregator> for SumPoints<'a, T> {
     ghost can_show = { λ _ _. Unit {0} };
 
     #[inline(always)]
-    #[tactic(auto, using(crate::proofs::ObservedLemmas::value_before_none, crate::proofs::ObservedLemmas::value_before_some))]
+    #[tactic(auto, using(crate::proofs::ObservedLemmas::value_before_found))]
     fn point(
         &self,
         alloc: Global,

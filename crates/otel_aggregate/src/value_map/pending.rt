@@ -1,4 +1,4 @@
-//! A prepared record or bind, and what is made for it in advance.
+//! What is prepared in a map, and what is made for it in advance.
 
 ghost use Rattle.std.specs.Prelude.{◌≡◌, ◌&&◌, Bool, true, false, drop, None, Some, IfSome, IfOk, IsOk, OnOk, IsOkUnless, IsTrue, is_some};
 ghost use Rattle.std.specs.List.{AllByRecursion as EachOf};

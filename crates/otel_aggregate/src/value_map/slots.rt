@@ -62,19 +62,6 @@ impl<A: Aggregator> Slot<A> {
     }
 }
 
-impl Slot<AnyAggregator> {
-    /// Takes in the records of these values, one after another.
-    fn update_each(&mut self, settings: &AnySettings, values: &[NumberValue])
-        ensures { kept_of fold_in self.new ≡ written_each (samples_of (aggregate_of settings.now) values.now) (kept_of fold_in self.old) }
-    {
-        if values.is_empty() {
-            return;
-        }
-        self.updated = true;
-        self.aggregator.update_each(settings, values);
-    }
-}
-
 /// Fills a vacant slot and returns its number.
 pub fn fill<A: Aggregator>(slots: &mut Slab<Slot<A>>, slot: Slot<A>) -> usize
     requires { HasRoomFor slots.old 1 }
@@ -104,8 +91,12 @@ pub(crate) fn touch_each(
 )
     ensures look { SameLook (look_in fold_in slots.new) (at_slot number (written_each (samples_of (aggregate_of settings.now) values.now)) (look_in fold_in slots.old)) }
 {
+    if values.is_empty() {
+        return;
+    }
     if let Some(slot) = slots.get_mut(number) {
-        slot.update_each(settings, values);
+        slot.updated = true;
+        slot.aggregator.update_each(settings, values);
     }
 }
 

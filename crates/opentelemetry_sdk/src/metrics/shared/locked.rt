@@ -193,11 +193,11 @@ impl<P: Parts, C: Account, S: Account> Locked<P, C, S> {
     /// Makes the records of a worker, in order, up to the first that is refused. Those that are made leave the list;
     /// the others stay, in order. The worker goes on to know its series.
     ///
-    /// Series of which several records wait, and which all streams know, are looked up twice and written at once
-    /// (`Worker::group`); any other record costs what it costs as a step of a provider. With nothing in the list it is never refused. Before each
-    /// record, it is refused with `LedgerFull` if the book has 2^64 - 1 records, otherwise with the fault of the
-    /// record, which changes nothing. A record through a handle, one without attributes, or one that makes no entry in
-    /// a stream of its instrument (`known`) is never refused for want of memory.
+    /// Series of which several records wait, and which all streams know, are looked up once and written at once
+    /// (`Worker::group`); any other record costs what it costs as a step of a provider. With nothing in the list it is
+    /// never refused. Before each record, it is refused with `LedgerFull` if the book has 2^64 - 1 records, otherwise
+    /// with the fault of the record, which changes nothing. A record through a handle, one without attributes, or one
+    /// that makes no entry in a stream of its instrument (`known`) is never refused for want of memory.
     pub fn submit(&mut self, worker: &mut Worker<C, S>) -> Result<Receipt, Fault>
         ensures grew { (records_of worker.old ≤ records_of worker.new) × (values_of worker.old ≤ values_of worker.new) }
         ensures made { Submits (state_in self.old) (pending_of worker.old) (state_in self.new) (pending_of worker.new) (records_of worker.new - records_of worker.old) (values_of worker.new - values_of worker.old) }

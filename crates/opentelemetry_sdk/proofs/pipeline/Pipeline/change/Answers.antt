@@ -1,15 +1,15 @@
-use Rattle.std.proofs.Common.{◌≡◌, ◌∙◌, ap, sym, subst, [], List, ℕ, get_or, set, slice_get}
+use Rattle.std.proofs.Common.{◌≡◌, ◌∙◌, ap, sym, subst, [], List, ℕ, map, get_or, set, slice_get}
 use Rattle.otel_model.specs.Calls.{Call, or_else}
 use Rattle.otel_model.specs.Machine.{part_after_call}
 use Rattle.opentelemetry_sdk.specs.declared.pipeline.change.Change.{Change}
 use Rattle.opentelemetry_sdk.specs.pipeline.Handles.{StandsFor}
 use Rattle.opentelemetry_sdk.specs.pipeline.Pipelines.{AreNumbers, IsLawful, Piped, changed_by, changed_each, fed_by, part_of}
 use Rattle.opentelemetry_sdk.specs.pipeline.Streams.{StreamContents, contents_after}
-use Rattle.opentelemetry_sdk.proofs.pipeline.Answered.{changes}
+use Rattle.opentelemetry_sdk.proofs.pipeline.Answered.{answer_of, changes}
 use Rattle.opentelemetry_sdk.proofs.pipeline.Handles.{change-sent}
-use Rattle.opentelemetry_sdk.proofs.pipeline.PipelineLemmas.{sound-changed}
+use Rattle.opentelemetry_sdk.proofs.pipeline.PipelineLemmas.{sound-same}
 use Rattle.opentelemetry_sdk.proofs.pipeline.Records.{fed-numbers}
-use Rattle.opentelemetry_sdk.proofs.pipeline.Writes.{changed-alone}
+use Rattle.opentelemetry_sdk.proofs.pipeline.Writes.{changed-alone, unseen-each}
 use Rattle.opentelemetry_sdk.proofs.pipeline.Pipeline.change.Goals as goal
 
 -- what the change makes of the reader, and which call that is
@@ -33,10 +33,10 @@ invariant_of-self c =
     let ns : List ℕ = c.streams_fed-feeds.result.now in
     let all : AreNumbers old ns = subst (AreNumbers old) (sym (c.streams_fed-feeds.ensures ∙ ap (λ g. or_else (slice_get g c.args.instrument) []) c.deref.ensures.value)) (fed-numbers old c.self.inside.feeds.items c.args.instrument c.self.invariant.1) in
     let made = changed-alone (contents_after c.args.change) ns old c.index_mut.result.now c.change.new.self c.if-feeds-eq1.true all c.index_mut.ensures.value c.change.ensures in
-    sound-changed c.self.inside.answers c.self.inside.identities.keys c.self.inside.feeds.items old (set old (get_or ns 0 0) c.change.new.self) (contents_after c.args.change) (changes c.args.change) ns made c.self.invariant
+    sound-same c.self.inside.answers c.self.inside.identities.keys c.self.inside.feeds.items old (set old (get_or ns 0 0) c.change.new.self) (ap (map answer_of) made ∙ unseen-each answer_of (contents_after c.args.change) (changes c.args.change) ns old) c.self.invariant
 
 pub invariant_of-self-2 : goal.invariant_of-self-2
-invariant_of-self-2 c = sound-changed c.self.inside.answers c.self.inside.identities.keys c.self.inside.feeds.items c.self.inside.streams.items c.change_each.new.streams.items (contents_after c.args.change) (changes c.args.change) c.streams_fed-feeds.result.now c.change_each.ensures c.self.invariant
+invariant_of-self-2 c = sound-same c.self.inside.answers c.self.inside.identities.keys c.self.inside.feeds.items c.self.inside.streams.items c.change_each.new.streams.items (ap (map answer_of) c.change_each.ensures ∙ unseen-each answer_of (contents_after c.args.change) (changes c.args.change) c.streams_fed-feeds.result.now c.self.inside.streams.items) c.self.invariant
 
 -- the one stream that the instrument feeds
 pub returns-then-feeds-eq1 : goal.returns-then-feeds-eq1

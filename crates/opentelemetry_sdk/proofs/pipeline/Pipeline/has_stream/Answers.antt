@@ -1,7 +1,7 @@
 use Rattle.std.proofs.Common.{◌∙◌, ap, not, sym, [], slice_get}
 use Rattle.otel_model.specs.Calls.{or_else}
 use Rattle.opentelemetry_sdk.specs.pipeline.Pipelines.{some_stream}
-use Rattle.opentelemetry_sdk.proofs.pipeline.Feeds.{some-or-none, streams-fed}
+use Rattle.opentelemetry_sdk.proofs.pipeline.Records.{some-or-none, streams-fed}
 use Rattle.opentelemetry_sdk.proofs.pipeline.Pipeline.has_stream.Goals as goal
 
 -- identities are fed as numbers are

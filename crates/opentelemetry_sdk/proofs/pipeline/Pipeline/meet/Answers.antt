@@ -1,15 +1,15 @@
-use Rattle.std.proofs.Common.{◌≡◌, ◌∙◌, ◌<◌, ap, arith, refl, sym, length, List, Some, slice_get}
+use Rattle.std.proofs.Common.{◌≡◌, ◌∙◌, ◌<◌, ap, arith, refl, sym, subst, length, List, Some, slice_get}
 use Rattle.std.proofs.lemmas.List.{length-map}
 use Rattle.std.proofs.lemmas.Option.{slice_get_read, slice_get_within}
 use Rattle.std.proofs.lemmas.Result.{on_ok_weaker}
 use Rattle.otel_model.specs.Demands.{Demand, is_drop}
-use Rattle.opentelemetry_sdk.specs.pipeline.Pipelines.{Piped, fed_once, identity_of}
+use Rattle.opentelemetry_sdk.specs.pipeline.Pipelines.{IsLonger, Piped, fed_once, identity_of}
 use Rattle.opentelemetry_sdk.specs.pipeline.Streams.{StreamContents}
-use Rattle.opentelemetry_sdk.proofs.pipeline.Meets.{longer-same, met-more}
+use Rattle.opentelemetry_sdk.proofs.pipeline.Meets.{longer-refl, met-more}
 use Rattle.opentelemetry_sdk.proofs.pipeline.Pipeline.meet.Goals as goal
 
 pub returns-in_err-number-clause-longer : goal.returns-in_err-number-clause-longer
-returns-in_err-number-clause-longer c = longer-same c.args.self.now c.stream_for.new.self c.in_err-number.ensures.same
+returns-in_err-number-clause-longer c = subst (IsLonger c.args.self.now) (sym c.in_err-number.ensures.same) (longer-refl c.args.self.now)
 
 -- its stream is fed once
 pub returns-clause-met : goal.returns-clause-met

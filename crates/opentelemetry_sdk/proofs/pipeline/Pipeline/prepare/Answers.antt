@@ -2,12 +2,13 @@ use Rattle.std.proofs.Common.{◌∙◌, ap, sym, subst, [], List, ℕ, slice_ge
 use Rattle.otel_model.specs.Calls.{or_else}
 use Rattle.opentelemetry_sdk.specs.pipeline.Known.{IsKnownIfThere}
 use Rattle.opentelemetry_sdk.specs.pipeline.Pipelines.{IsLawful, Piped, all_without_pending}
+use Rattle.opentelemetry_sdk.proofs.pipeline.Answered.{answers-settled}
 use Rattle.opentelemetry_sdk.proofs.pipeline.Known.{known-at}
-use Rattle.opentelemetry_sdk.proofs.pipeline.PipelineLemmas.{settled-part, sound-settled}
+use Rattle.opentelemetry_sdk.proofs.pipeline.PipelineLemmas.{settled-part, sound-same}
 use Rattle.opentelemetry_sdk.proofs.pipeline.Pipeline.prepare.Goals as goal
 
 pub invariant_of-self : goal.invariant_of-self
-invariant_of-self c = sound-settled c.self.inside.answers c.self.inside.identities.keys c.self.inside.feeds.items c.self.inside.streams.items c.prepare_each.new.streams.items c.prepare_each.ensures.same c.self.invariant
+invariant_of-self c = sound-same c.self.inside.answers c.self.inside.identities.keys c.self.inside.feeds.items c.self.inside.streams.items c.prepare_each.new.streams.items (answers-settled c.prepare_each.new.streams.items c.self.inside.streams.items c.prepare_each.ensures.same) c.self.invariant
 
 -- the model does not see which streams are ready
 pub returns-clause-same : goal.returns-clause-same

@@ -1,14 +1,15 @@
-use Rattle.std.proofs.Common.{◌≡◌, ◌∙◌, ap, sym, [], List, ℕ, slice_get}
+use Rattle.std.proofs.Common.{◌≡◌, ◌∙◌, ap, sym, [], slice_get}
 use Rattle.otel_model.specs.Calls.{or_else}
 use Rattle.opentelemetry_sdk.specs.pipeline.Known.{are_known}
 use Rattle.opentelemetry_sdk.specs.pipeline.Pipelines.{IsLawful, Piped, changed_each, fed_by}
 use Rattle.opentelemetry_sdk.specs.pipeline.Streams.{contents_prepared}
+use Rattle.opentelemetry_sdk.proofs.pipeline.Answered.{answers-settled}
 use Rattle.opentelemetry_sdk.proofs.pipeline.Known.{known-fed, placed-fed}
-use Rattle.opentelemetry_sdk.proofs.pipeline.PipelineLemmas.{settled-part, sound-settled}
+use Rattle.opentelemetry_sdk.proofs.pipeline.PipelineLemmas.{settled-part, sound-same}
 use Rattle.opentelemetry_sdk.proofs.pipeline.Pipeline.prepare_known.Goals as goal
 
 pub invariant_of-self : goal.invariant_of-self
-invariant_of-self c = sound-settled c.self.inside.answers c.self.inside.identities.keys c.self.inside.feeds.items c.self.inside.streams.items c.prepare_known_each.new.streams.items c.prepare_known_each.ensures.same c.self.invariant
+invariant_of-self c = sound-same c.self.inside.answers c.self.inside.identities.keys c.self.inside.feeds.items c.self.inside.streams.items c.prepare_known_each.new.streams.items (answers-settled c.prepare_known_each.new.streams.items c.self.inside.streams.items c.prepare_known_each.ensures.same) c.self.invariant
 
 pub returns-clause-ready : goal.returns-clause-ready
 returns-clause-ready c =

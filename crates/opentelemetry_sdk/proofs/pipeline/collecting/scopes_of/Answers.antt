@@ -1,7 +1,8 @@
 use Rattle.std.proofs.Common.{◌≡◌, ◌∙◌, ◌++◌, ap, sym, length, map, arith, inl, inr}
 use Rattle.std.specs.Vec.Iter.{into_iter_items, into_iter_len}
 use Rattle.opentelemetry_sdk.specs.pipeline.Collections.{shown_in, scopes_shown}
-use Rattle.opentelemetry_sdk.proofs.pipeline.Places.{left-long, left-more, scopes-more, scopes-all}
+use Rattle.opentelemetry_sdk.proofs.pipeline.Places.{left-more, scopes-more, scopes-all}
+use Rattle.opentelemetry_sdk.proofs.pipeline.Writes.{length-seen}
 use Rattle.opentelemetry_sdk.proofs.pipeline.collecting.scopes_of.Goals as goal
 
 pub loop-scope-init : goal.loop-scope-init
@@ -9,7 +10,7 @@ loop-scope-init c =
     let is = c.into_iter-scope-iterator.ensures.into_iter_gives in
     let second = c.zip-scope-items.ensures.second in
     let keys : c.into_iter-scope-iterator.result.a ≡ c.args.meters.now.keys = ap (λ z. z.a) is ∙ (c.zip-scope-items.ensures.first ∙ c.iter.ensures.rest) in
-    let long = left-long (λ v. v.items) (λ m. shown_in m c.args.now c.args.streams.now) c.in_ok-lists.lists.items c.args.meters.now.keys c.in_ok-lists.ensures.metrics in
+    let long = length-seen (λ v. v.items) (λ m. shown_in m c.args.now c.args.streams.now) c.in_ok-lists.lists.items c.args.meters.now.keys c.in_ok-lists.ensures.metrics in
     record {
       all = ap (λ xs. xs ++ scopes_shown c.args.now c.args.streams.now c.into_iter-scope-iterator.result.a) c.in_ok-scopes.ensures.items ∙ ap (scopes_shown c.args.now c.args.streams.now) keys;
       left = ap (λ z. map (λ v. v.items) (into_iter_items z.b)) is ∙ (ap (map (λ v. v.items)) second.0 ∙ (c.in_ok-lists.ensures.metrics ∙ ap (map (λ m. shown_in m c.args.now c.args.streams.now)) (sym keys)));

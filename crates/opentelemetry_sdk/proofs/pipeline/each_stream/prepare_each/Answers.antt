@@ -1,9 +1,9 @@
-use Rattle.std.proofs.Common.{rules, ◌≡◌, ◌<◌, ◌∙◌, ap, refl, sym, subst, List, arith, get_or, length, slice_get, Some, option_map, IsOk}
+use Rattle.std.proofs.Common.{rules, ◌≡◌, ◌<◌, ◌∙◌, ap, refl, sym, subst, List, arith, get_or, length, slice_get, Some, option_map, IfSome, IsOk}
 use Rattle.std.proofs.lemmas.List.{length-map}
 use Rattle.std.proofs.lemmas.Option.{slice_get-map, slice_get_read}
 use Rattle.std.proofs.lemmas.List.Elements.{All-from_get_or}
 use Rattle.opentelemetry_sdk.specs.pipeline.Known.{IsKnownIfThere}
-use Rattle.opentelemetry_sdk.specs.pipeline.Pipelines.{IsReadyIfThere, all_without_pending}
+use Rattle.opentelemetry_sdk.specs.pipeline.Pipelines.{IsReady, all_without_pending}
 use Rattle.opentelemetry_sdk.specs.pipeline.Streams.{StreamContents, without_pending}
 use Rattle.opentelemetry_sdk.proofs.pipeline.Writes.{ready-more, seen_same}
 use Rattle.opentelemetry_sdk.proofs.pipeline.each_stream.prepare_each.Goals as goal
@@ -26,9 +26,7 @@ returns-in_err-prepare-clause-known c = λ records known.
     search rules)
 
 pub loop-k-preserved : goal.loop-k-preserved
-loop-k-preserved c = ready-more without_pending (IsReadyIfThere c.args.binds c.args.attributes.now) c.args.feeds.now c.args.streams.now.items c.loop-k.streams.items c.loop-k.k-index c.index_mut.result.now c.prepare.new.self
-    (omega (arith, c.requires c.loop-k.k-index 0 c.loop-k-test.true, ap length c.loop-k.invariant.same, length-map {A = StreamContents} {B = StreamContents}))
-    c.index_mut.ensures.value c.prepare.ensures.same c.in_ok-prepare.ensures.ready c.loop-k.invariant
+loop-k-preserved c = ready-more without_pending (IsReady c.args.binds c.args.attributes.now) c.args.feeds.now c.args.streams.now.items c.loop-k.streams.items c.loop-k.k-index c.index_mut.result.now c.prepare.new.self c.index_mut.ensures.value c.prepare.ensures.same c.in_ok-prepare.ensures.ready c.loop-k.invariant
 
 pub returns-clause-ready : goal.returns-clause-ready
-returns-clause-ready c = All-from_get_or (λ n. IsReadyIfThere c.args.binds c.args.attributes.now (slice_get c.loop-k.streams.items n)) c.args.feeds.now 0 (λ i h. c.loop-k.invariant.ready i (omega arith))
+returns-clause-ready c = All-from_get_or (λ n. IfSome (slice_get c.loop-k.streams.items n) (IsReady c.args.binds c.args.attributes.now)) c.args.feeds.now 0 (λ i h. c.loop-k.invariant.ready i (omega arith))

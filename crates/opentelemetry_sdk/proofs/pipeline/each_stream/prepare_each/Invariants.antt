@@ -1,7 +1,7 @@
-use Rattle.opentelemetry_sdk.specs.pipeline.Pipelines.{IsReadyIfThere}
+use Rattle.opentelemetry_sdk.specs.pipeline.Pipelines.{IsReady}
 use Rattle.opentelemetry_sdk.specs.pipeline.Streams.{without_pending}
 use Rattle.opentelemetry_sdk.proofs.pipeline.Writes.{IsReadyUpto}
 use Rattle.opentelemetry_sdk.proofs.pipeline.each_stream.prepare_each.Given as goal
 
 abbrev pub invariant-loop-k : goal.invariant-loop-k
-invariant-loop-k l = IsReadyUpto without_pending (IsReadyIfThere l.binds l.attributes) l.feeds l.initial.streams.items l.streams.items l.k-index
+invariant-loop-k l = IsReadyUpto without_pending (IsReady l.binds l.attributes) l.feeds l.initial.streams.items l.streams.items l.k-index

@@ -1,10 +1,10 @@
-use Rattle.std.proofs.Common.{◌≡◌, ◌<◌, ◌∙◌, ap, refl, sym, arith, ℕ, true, false, not, ◌&&◌, List, get_or, length, slice_get}
-use Rattle.std.proofs.lemmas.List.{take_all}
+use Rattle.std.proofs.Common.{◌≡◌, ◌<◌, ◌∙◌, ap, refl, sym, arith, ℕ, true, false, not, ◌&&◌, List, get_or, length, option_map, slice_get}
 use Rattle.std.proofs.lemmas.List.Folds.{list_all_more}
+use Rattle.otel_model.specs.Calls.{or_else}
 use Rattle.otel_model.specs.Demands.{Demand, is_drop}
-use Rattle.opentelemetry_sdk.specs.pipeline.Known.{are_known, is_known_to, is_known_there}
+use Rattle.opentelemetry_sdk.specs.pipeline.Known.{is_known_to, knows}
 use Rattle.opentelemetry_sdk.specs.pipeline.Streams.{StreamContents, contents_prepared, without_pending}
-use Rattle.opentelemetry_sdk.proofs.pipeline.Known.{knows, knows-at}
+use Rattle.opentelemetry_sdk.proofs.pipeline.Known.{knows-at}
 use Rattle.opentelemetry_sdk.proofs.pipeline.Writes.{changed-more, length-seen, seen_same}
 use Rattle.opentelemetry_sdk.proofs.pipeline.each_stream.prepare_known_each.Goals as goal
 use Rattle.opentelemetry_sdk.proofs.pipeline.each_stream.prepare_known_each.Goals.{then-is_drop-via-then-is_drop, then-is_drop-via-else-is_drop+then-not-prepare_known}
@@ -32,12 +32,12 @@ loop-k-preserved c =
     let y : StreamContents = c.prepare_known.new.self in
     let so_far = c.loop-k.invariant in
     let told = c.if-not-prepare_known.false in
-    let inside : n < length new = omega (arith, c.requires i 0 c.loop-k-test.true, length-seen without_pending new old so_far.same) in
+    let inside : n < length new = omega (arith, c.requires i 0 c.loop-k-test.true, length-seen without_pending without_pending new old so_far.same) in
     let kept : is_drop x.stream.demand.aggregation ≡ false = sym (c.is_drop.ensures ∙ ap (λ (d : Demand). is_drop d.aggregation) c.demand.ensures) ∙ c.if-is_drop.false in
     let known : is_known_to l x.stream ≡ true = c.prepare_known.ensures.known told in
     let here : knows l x ≡ true = λ j. not (kept j) && known j in
     record {
-      known = list_all_more (λ m. is_known_there l (slice_get old m)) ns i 0 c.loop-k-test.true ∙ λ j. so_far.known j && (knows-at l old new n x so_far.knows inside c.index_mut-stream.ensures.value ∙ here) j;
+      known = list_all_more (λ m. or_else (option_map (knows l) (slice_get old m)) true) ns i 0 c.loop-k-test.true ∙ λ j. so_far.known j && (knows-at l old new n x so_far.knows inside c.index_mut-stream.ensures.value ∙ here) j;
       knows = seen_same (knows l) new n x x y c.index_mut-stream.ensures.value (ap (knows l) (c.prepare_known.ensures.ready told)) ∙ so_far.knows;
       same = seen_same without_pending new n x x y c.index_mut-stream.ensures.value c.prepare_known.ensures.same ∙ so_far.same;
       done = changed-more (contents_prepared l) ns old new i x y c.requires c.loop-k-test.true c.index_mut-stream.ensures.value (c.prepare_known.ensures.ready told) so_far.done;

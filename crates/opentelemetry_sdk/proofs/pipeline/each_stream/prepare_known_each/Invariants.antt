@@ -1,8 +1,7 @@
 use Rattle.std.proofs.Common.{◌≡◌, true, map, take}
-use Rattle.opentelemetry_sdk.specs.pipeline.Known.{are_known}
+use Rattle.opentelemetry_sdk.specs.pipeline.Known.{are_known, knows}
 use Rattle.opentelemetry_sdk.specs.pipeline.Pipelines.{all_without_pending}
 use Rattle.opentelemetry_sdk.specs.pipeline.Streams.{contents_prepared}
-use Rattle.opentelemetry_sdk.proofs.pipeline.Known.{knows}
 use Rattle.opentelemetry_sdk.proofs.pipeline.Writes.{IsChangedUpto}
 use Rattle.opentelemetry_sdk.proofs.pipeline.each_stream.prepare_known_each.Given as goal
 

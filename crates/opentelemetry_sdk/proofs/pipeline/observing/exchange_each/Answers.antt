@@ -1,15 +1,9 @@
-use Rattle.std.proofs.Common.{◌∙◌, ◌<◌, ◌++◌, None, Option, add-one, ap, arith, length, length-set, refl, replicate, sym}
+use Rattle.std.proofs.Common.{◌∙◌, ◌<◌, ◌++◌, None, Option, add-one, ap, arith, length, length-set, replicate, sym}
 use Rattle.std.proofs.lemmas.List.{append-nil, drop_all, take_all}
 use Rattle.otel_aggregate.specs.Any.{DraftContents}
 use Rattle.opentelemetry_sdk.specs.pipeline.Observations.{drafted_all}
 use Rattle.opentelemetry_sdk.proofs.pipeline.Drafted.{back-more, drafted-back, drafts-few, fits-at, fits-back, fits-set, left-more, none-drafted}
 use Rattle.opentelemetry_sdk.proofs.pipeline.observing.exchange_each.Goals as goal
-
-pub loop-n-init : goal.loop-n-init
-loop-n-init c = record { left = refl; back = refl; fits = c.requires; many = refl }
-
-pub index_mut-draft-requires : goal.index_mut-draft-requires
-index_mut-draft-requires c = omega (arith, c.loop-n.invariant.many, c.len-n-end.ensures)
 
 pub index_mut-requires : goal.index_mut-requires
 index_mut-requires c = omega (arith, drafts-few c.loop-n.drafts.items c.loop-n.streams.items c.loop-n.n (omega (arith, c.loop-n.invariant.many, c.len-n-end.ensures)) c.loop-n.invariant.fits)

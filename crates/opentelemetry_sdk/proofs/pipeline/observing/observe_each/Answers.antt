@@ -21,9 +21,6 @@ loop-observation-init c =
       observed = ap (λ ds. drafted_all ds ks) e ∙ none-drafted c.loop.counter ks;
     }
 
-pub loop-k-init : goal.loop-k-init
-loop-k-init c = record { same = refl; long = c.loop-observation.invariant.long; fits = c.loop-observation.invariant.fits; left = refl }
-
 pub index_mut-draft-requires : goal.index_mut-draft-requires
 index_mut-draft-requires c = omega (arith, c.loop-k.invariant.long, fed-inside c.args.streams.now.items c.loop-k.streams.items c.args.feeds.now c.observation-item.result.instrument c.loop-k.k-index c.streams_fed-numbers.result.now c.requires.numbers c.streams_fed-numbers.ensures c.loop-k-test.true (c.loop-k.invariant.same ∙ c.loop-observation.invariant.same))
 

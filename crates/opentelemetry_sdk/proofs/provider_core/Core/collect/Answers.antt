@@ -1,5 +1,5 @@
-use Rattle.std.proofs.Common.{◌≡◌, ◌<◌, ◌∙◌, ap, sym, [], map, set, length, None, Some, option_map, slice_get, subst, arith, All, OnOk, OnErr}
-use Rattle.std.proofs.lemmas.Option.{slice_get-map}
+use Rattle.std.proofs.Common.{◌≡◌, ◌<◌, ◌∙◌, ap, refl, sym, [], map, set, length, None, Some, option_map, slice_get, subst, arith, All, OnOk, OnErr}
+use Rattle.std.proofs.lemmas.Option.{slice_get-map, slice_get_read}
 use Rattle.otel_model.specs.Calls as model
 use Rattle.otel_model.specs.Machine.{changed_at, part_after_call}
 use Rattle.otel_model.specs.Refusals.{observations_refusal}
@@ -8,7 +8,8 @@ use Rattle.opentelemetry_sdk.specs.pipeline.Pipelines.{part_of}
 use Rattle.opentelemetry_sdk.specs.Cores.{state_in}
 use Rattle.opentelemetry_sdk.specs.Correspondence.{observed_of, reply_from}
 use Rattle.opentelemetry_sdk.specs.States.{IsTaken}
-use Rattle.opentelemetry_sdk.proofs.Collects.{get-at, collect-step, set-seen, set-unseen}
+use Rattle.opentelemetry_sdk.proofs.Collects.{collect-step, set-seen}
+use Rattle.opentelemetry_sdk.proofs.pipeline.Writes.{seen_same}
 use Rattle.std.proofs.lemmas.Result.{on_ok_weaker, on_err_weaker}
 use Rattle.opentelemetry_sdk.proofs.Sound.{sound-step}
 use Rattle.opentelemetry_sdk.proofs.Typed.{typed-observed, observable-observed}
@@ -20,20 +21,20 @@ pub collect-requires-clause-typed : goal.collect-requires-clause-typed
 collect-requires-clause-typed c =
     let ps = c.self.inside.pipelines.items in
     let inside : c.args.reader < length ps = omega (arith, c.if-reader-len.false, c.len.ensures, c.self.inside.pipelines.ok.0) in
-    typed-observed c.self.inside.instruments.items ps c.args.observations.now c.args.reader c.index_mut.result.now (get-at ps c.args.reader c.index_mut.result.now inside c.index_mut.ensures.value) c.self.invariant.typed
+    typed-observed c.self.inside.instruments.items ps c.args.observations.now c.args.reader c.index_mut.result.now (slice_get_read ps (length ps) c.args.reader c.index_mut.result.now refl inside c.index_mut.ensures.value) c.self.invariant.typed
     (subst (λ is. All (IsTaken is) c.args.observations.now) c.deref.ensures.value c.in_ok-check_observations.ensures.taken)
 
 pub collect-requires-clause-observable : goal.collect-requires-clause-observable
 collect-requires-clause-observable c =
     let ps = c.self.inside.pipelines.items in
     let inside : c.args.reader < length ps = omega (arith, c.if-reader-len.false, c.len.ensures, c.self.inside.pipelines.ok.0) in
-    observable-observed c.self.inside.instruments.items ps c.args.observations.now c.args.reader c.index_mut.result.now (get-at ps c.args.reader c.index_mut.result.now inside c.index_mut.ensures.value) c.self.invariant.typed
+    observable-observed c.self.inside.instruments.items ps c.args.observations.now c.args.reader c.index_mut.result.now (slice_get_read ps (length ps) c.args.reader c.index_mut.result.now refl inside c.index_mut.ensures.value) c.self.invariant.typed
     (subst (λ is. All (IsTaken is) c.args.observations.now) c.deref.ensures.value c.in_ok-check_observations.ensures.taken)
     (subst (λ is. observations_refusal is (map observed_of c.args.observations.now) ≡ None) c.deref.ensures.value c.in_ok-check_observations.ensures.fits)
 
 -- the reader is there, the observations are good, and what it gives is collected
 at : (c : After-collect) → slice_get c.self.inside.pipelines.items c.args.reader ≡ Some c.index_mut.result.now
-at c = get-at c.self.inside.pipelines.items c.args.reader c.index_mut.result.now (omega (arith, c.if-reader-len.false, c.len.ensures, c.self.inside.pipelines.ok.0)) c.index_mut.ensures.value
+at c = slice_get_read c.self.inside.pipelines.items (length c.self.inside.pipelines.items) c.args.reader c.index_mut.result.now refl (omega (arith, c.if-reader-len.false, c.len.ensures, c.self.inside.pipelines.ok.0)) c.index_mut.ensures.value
 
 at-part : (c : After-collect) → slice_get (map part_of c.self.inside.pipelines.items) c.args.reader ≡ Some (part_of c.index_mut.result.now)
 at-part c = slice_get-map part_of c.self.inside.pipelines.items c.args.reader ∙ ap (option_map part_of) (at c)
@@ -45,7 +46,7 @@ left : (c : After-collect) → OnOk c.collect.result (map part_of (set c.self.in
 left c = on_ok_weaker c.collect.result (λ all. set-seen _ c.self.inside.pipelines.items c.args.reader c.index_mut.result.now c.collect.new.self (at c) (all c.args.reader)) c.collect.ensures.ok
 
 same : (c : After-collect) → OnErr c.collect.result (map part_of (set c.self.inside.pipelines.items c.args.reader c.collect.new.self) ≡ map part_of c.self.inside.pipelines.items)
-same c = on_err_weaker c.collect.result (λ unmade. set-unseen c.self.inside.pipelines.items c.args.reader c.index_mut.result.now c.collect.new.self (at c) unmade) c.collect.ensures.err
+same c = on_err_weaker c.collect.result (λ unmade. seen_same part_of c.self.inside.pipelines.items c.args.reader c.index_mut.result.now c.index_mut.result.now c.collect.new.self c.index_mut.ensures.value unmade) c.collect.ensures.err
 
 pub invariant_of-self : goal.invariant_of-self
 invariant_of-self c =

@@ -1,20 +1,20 @@
 use Rattle.std.proofs.Common.{◌≡◌, ◌∙◌, ap, arith, sym, subst, ℕ, List, get_or, take}
 use Rattle.std.specs.List.{AllByRecursion as EachOf}
-use Rattle.std.proofs.lemmas.List.{get_or_default, take_all, take_more}
+use Rattle.std.proofs.lemmas.List.{get_or_default, map-id, take_all, take_more}
 use Rattle.std.proofs.lemmas.Simd.{map-map}
 use Rattle.otel_model.specs.Machine.{part_after_call}
 use Rattle.otel_model.proofs.Amounts.{each_push}
 use Rattle.opentelemetry_sdk.specs.pipeline.Handles.{StandsFor}
 use Rattle.opentelemetry_sdk.specs.pipeline.Pipelines.{IsLawful, Piped, changed_by, part_of}
 use Rattle.opentelemetry_sdk.specs.pipeline.Streams.{contents_after}
-use Rattle.opentelemetry_sdk.proofs.pipeline.PipelinesLemmas.{done-all, done-more, each-same}
+use Rattle.opentelemetry_sdk.proofs.pipeline.PipelinesLemmas.{done-all, done-more}
 use Rattle.opentelemetry_sdk.proofs.provider_core.each_pipeline.change_all.Goals as goal
 
 pub returns-clause-parts : goal.returns-clause-parts
 returns-clause-parts c = λ next call makes. done-all part_of (λ (p : Piped). part_after_call next call (part_of p)) c.args.pipelines.now c.loop-i.pipelines c.loop-i.i (omega arith) (c.loop-i.invariant.parts next call makes) ∙ sym (map-map (part_after_call next call) part_of c.args.pipelines.now)
 
 pub returns-clause-streams : goal.returns-clause-streams
-returns-clause-streams c = sym (each-same c.loop-i.pipelines) ∙ done-all (λ (p : Piped). p) (changed_by (contents_after c.args.change) c.args.instrument) c.args.pipelines.now c.loop-i.pipelines c.loop-i.i (omega arith) c.loop-i.invariant.streams
+returns-clause-streams c = sym (map-id c.loop-i.pipelines) ∙ done-all (λ (p : Piped). p) (changed_by (contents_after c.args.change) c.args.instrument) c.args.pipelines.now c.loop-i.pipelines c.loop-i.i (omega arith) c.loop-i.invariant.streams
 
 pub returns-clause-lawful : goal.returns-clause-lawful
 returns-clause-lawful c = subst (EachOf IsLawful) (take_all c.loop-i.i c.args.pipelines.now (omega (arith, c.loop-i-test.false))) c.loop-i.invariant.lawful

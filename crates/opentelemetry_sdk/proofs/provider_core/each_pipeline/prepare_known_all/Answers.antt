@@ -1,6 +1,6 @@
-use Rattle.std.proofs.Common.{◌≡◌, ◌<◌, ◌∙◌, ap, refl, sym, subst, arith, ℕ, true, ◌&&◌, List, map, length, get_or, take}
+use Rattle.std.proofs.Common.{◌≡◌, ◌∙◌, ap, refl, sym, subst, arith, ℕ, true, ◌&&◌, List, get_or, take}
 use Rattle.std.specs.List.{list_all, AllByRecursion as EachOf}
-use Rattle.std.proofs.lemmas.List.{get_or_default, take_all, take_more}
+use Rattle.std.proofs.lemmas.List.{get_or_default, map-id, take_all, take_more}
 use Rattle.std.proofs.lemmas.List.Folds.{list_all-map, list_all_more}
 use Rattle.otel_common.specs.declared.attributes.KeyValue.{KeyValue}
 use Rattle.otel_model.specs.Places.{Listed, IsPlaced}
@@ -9,7 +9,7 @@ use Rattle.otel_model.proofs.Amounts.{each_map, each_push}
 use Rattle.opentelemetry_sdk.specs.pipeline.Known.{is_known_at}
 use Rattle.opentelemetry_sdk.specs.pipeline.Pipelines.{Piped, changed_by, part_of}
 use Rattle.opentelemetry_sdk.specs.pipeline.Streams.{contents_prepared}
-use Rattle.opentelemetry_sdk.proofs.pipeline.PipelinesLemmas.{done-all, done-more, each-same}
+use Rattle.opentelemetry_sdk.proofs.pipeline.PipelinesLemmas.{done-all, done-more}
 use Rattle.opentelemetry_sdk.proofs.pipeline.Writes.{seen_same}
 use Rattle.opentelemetry_sdk.proofs.provider_core.each_pipeline.prepare_known_all.Goals as goal
 
@@ -47,7 +47,7 @@ loop-i-preserved c =
 pub returns-clause-ready : goal.returns-clause-ready
 returns-clause-ready c = λ told.
     (let f = changed_by (contents_prepared c.args.attributes.now) c.args.instrument in
-    sym (each-same c.loop-i.pipelines) ∙ done-all (λ (p : Piped). p) f c.args.pipelines.now c.loop-i.pipelines c.loop-i.i (omega arith) c.loop-i.invariant.done)
+    sym (map-id c.loop-i.pipelines) ∙ done-all (λ (p : Piped). p) f c.args.pipelines.now c.loop-i.pipelines c.loop-i.i (omega arith) c.loop-i.invariant.done)
 
 pub returns-clause-known : goal.returns-clause-known
 returns-clause-known c = λ told.

@@ -1,14 +1,13 @@
 use Rattle.std.proofs.Common.{◌≡◌, ◌∙◌, ap, sym, subst, refl, drop, true, true≢false, List, [], ◌∷◌, Some}
 use Rattle.std.specs.Bool.{beq}
 use Rattle.std.specs.List.{AllByRecursion, list_all}
-use Rattle.otel_data.specs.declared.numbers.NumberValue.{NumberValue}
 use Rattle.otel_model_stream.specs.Entries.{Entry}
 use Rattle.otel_model_stream.specs.Sets.{AttributeSet}
 use Rattle.otel_aggregate.specs.Any.{amount_of, any_after_commits, is_signed_value}
 use Rattle.otel_aggregate.specs.Kept.{IsWithin, state_of}
 use Rattle.otel_aggregate.specs.Links.{handles_of}
 use Rattle.otel_aggregate.specs.Streams.{AggregateContents}
-use Rattle.otel_aggregate.specs.value_map.Contents.{MapContents, is_next_placed, next_of}
+use Rattle.otel_aggregate.specs.value_map.Contents.{is_next_placed, next_of}
 use Rattle.otel_aggregate.proofs.StepLemmas.{commits-taken, commits-none, stream-commits}
 use Rattle.otel_aggregate.proofs.aggregate_stream.AggregateStream.commit_each.Goals as goal
 use Rattle.otel_aggregate.proofs.aggregate_stream.AggregateStream.commit_each.Goals.{After-commit_each, then-takes_each, else-takes_each}

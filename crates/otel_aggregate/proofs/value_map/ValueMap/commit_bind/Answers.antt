@@ -1,17 +1,12 @@
-use Rattle.std.proofs.Common.{◌≡◌, ◌∙◌, ◌<◌, ◌-◌, ◌^◌, [], ap, sym, subst, refl, None, Some, true≢false}
+use Rattle.std.proofs.Common.{◌≡◌, ◌∙◌, ◌<◌, ◌-◌, ◌^◌, ap, sym, subst, refl, None, Some, true≢false}
 use Rattle.std.specs.Prelude.{IsSome}
 use Rattle.otel_model_stream.specs.Sets.{AttributeSet}
 use Rattle.otel_model_stream.specs.Entries.{entry_for}
 use Rattle.otel_model_stream.specs.Maps.{MapState, bound_to}
 use Rattle.otel_aggregate.specs.value_map.Numbers.{number_of, handles_at}
-use Rattle.otel_aggregate.specs.value_map.Contents.{MapContents, next_of, pending_in}
-use Rattle.otel_aggregate.proofs.value_map.PlaceLemmas.{sound-spent, few-placed}
+use Rattle.otel_aggregate.specs.value_map.Contents.{MapContents, next_of}
+use Rattle.otel_aggregate.proofs.value_map.PlaceLemmas.{few-placed}
 use Rattle.otel_aggregate.proofs.value_map.ValueMap.commit_bind.Goals as goal
-
-pub invariant_of-self : goal.invariant_of-self
-invariant_of-self g c =
-    let spent : pending_in c.self.inside.table.numbers c.self.inside.pending ≡ [] = ap (λ (h : MapContents). h.pending) c.self.view_is ∙ c.place-number.ensures.spent in
-    (c.self.invariant.0 ∙ sym c.hold.ensures.counted, c.self.invariant.1, sound-spent _ _ _ c.self.inside.table.numbers c.self.inside.pending spent)
 
 pub hold-requires : goal.hold-requires
 hold-requires g c =

@@ -1,4 +1,4 @@
-use Rattle.std.proofs.Common.{rules, ◌≡◌, ◌∙◌, ◌++◌, ◌∷◌, [], List, ℕ, Some, true, ap, sym, subst}
+use Rattle.std.proofs.Common.{rules, ◌≡◌, ◌∙◌, ◌++◌, ◌∷◌, [], ℕ, Some, true, ap, sym, subst}
 use Rattle.std.specs.List.{AllByRecursion}
 use Rattle.otel_model_stream.specs.Entries.{Table}
 use Rattle.otel_aggregate.specs.value_map.Contents.{MapContents, IsSound, NamesEntry}

@@ -1,18 +1,11 @@
-use Rattle.std.proofs.Common.{ℕ, ◌≡◌, ◌∙◌, ◌||◌, Bool, List, [], ◌∷◌, Option, None, Some, is_some, true, false, sym, subst, refl, ap, true≢false}
+use Rattle.std.proofs.Common.{ℕ, ◌≡◌, ◌∙◌, ◌||◌, Bool, List, [], ◌∷◌, Option, None, Some, is_some, false, sym, refl, ap, true≢false}
 use Rattle.std.specs.Option.{IfNone, option_copied}
 use Rattle.otel_common.specs.Canonical.{canon}
 use Rattle.otel_common.specs.Equality.{set_eq}
 use Rattle.otel_common.specs.declared.attributes.KeyValue.{KeyValue}
 use Rattle.otel_model_stream.specs.Sets.{allowed_part, none_set}
-use Rattle.otel_aggregate.specs.value_map.Contents.{IsPlan}
-use Rattle.otel_aggregate.specs.declared.value_map.pending.Pending.TheVariants.{At}
-use Rattle.otel_aggregate.proofs.value_map.CanonicalSets.{canon-nil, some-canon}
-use Rattle.otel_aggregate.proofs.value_map.PlanLemmas.{plan-empty}
+use Rattle.otel_aggregate.proofs.value_map.CanonicalSets.{canon-nil}
 use Rattle.otel_aggregate.proofs.value_map.pending.form_led_to.Goals as goal
-
-none-there : (l : List KeyValue) → set_eq (canon l) [] ≡ true → set_eq l none_set ≡ true
-none-there [] e = refl
-none-there (p ∷ l) e = absurd (true≢false (sym e ∙ some-canon (p ∷ l) refl))
 
 some-there : (l : List KeyValue) → set_eq (canon l) [] ≡ false → set_eq l none_set ≡ false
 some-there [] e = absurd (true≢false (sym (ap (λ s. set_eq s []) canon-nil) ∙ e))
@@ -20,11 +13,6 @@ some-there (p ∷ l) e = refl
 
 pub is_form_of-requires : goal.is_form_of-requires
 is_form_of-requires g c = canon-nil
-
-pub returns-then-is_form_of-clause-plan : goal.returns-then-is_form_of-clause-plan
-returns-then-is_form_of-clause-plan g c =
-    let l : List KeyValue = allowed_part (option_copied c.args.allow) c.args.attributes.now in
-    subst (λ n. IsPlan c.args.table.now c.args.few l (At n)) (sym c.none.ensures.number) (plan-empty c.args.table.now c.args.few l (none-there l (sym c.is_form_of.ensures ∙ c.if-is_form_of.true)))
 
 -- nothing that is found leads there
 unled : (o another : Option ℕ) (a b : Bool) → a ≡ false → is_some o ≡ false → IfNone o (b ≡ false) → IfNone another ((a || b) ≡ false)

@@ -6,12 +6,8 @@ use Rattle.otel_model_stream.specs.Sets.{AttributeSet}
 use Rattle.otel_model_stream.specs.Entries.{has}
 use Rattle.otel_aggregate.specs.value_map.Contents.{IsPlan}
 use Rattle.otel_aggregate.specs.declared.value_map.pending.Pending.TheVariants.{New}
-use Rattle.otel_aggregate.proofs.value_map.PlanLemmas.{past-planned, past-there, none-there, plan-admitted}
+use Rattle.otel_aggregate.proofs.value_map.PlanLemmas.{past-there, none-there, plan-admitted}
 use Rattle.otel_aggregate.proofs.value_map.pending.plan_sorted.Goals as goal
-
-pub returns-then-not-few-clause-plan : goal.returns-then-not-few-clause-plan
-returns-then-not-few-clause-plan g c =
-    past-planned c.args.table.now c.args.few c.args.list.now.key c.plan_past.result (search rules) c.requires.unled (ap (λ (s : AttributeSet). has s c.args.table.now.table.entries) (sym c.requires.sorted) ∙ sym c.in_default.ensures.placed) c.plan_past.ensures.plan
 
 pub returns-then-not-few-clause-there : goal.returns-then-not-few-clause-there
 returns-then-not-few-clause-there g c there =

@@ -1,4 +1,5 @@
-use Rattle.std.proofs.Common.{ℕ, ◌≡◌, ◌∙◌, ◌≤◌, ◌<◌, ◌&&◌, ◌∷◌, [], List, Bool, true, false, ap, sym, refl, arith, length, slice_index_or}
+use Rattle.std.proofs.Common.{ℕ, ◌≡◌, ◌∙◌, ◌≤◌, ◌<◌, ◌&&◌, ◌∷◌, [], List, Bool, true, ap, sym, refl, arith, length, slice_index_or}
+use Rattle.std.proofs.Math.Bool.{and-true}
 use Rattle.otel_common.specs.Equality.{set_eq, bytes_eq, value_eq}
 use Rattle.otel_common.specs.declared.attributes.KeyValue.{KeyValue}
 use Rattle.otel_common.specs.declared.attributes.Value.TheVariants as value
@@ -10,13 +11,8 @@ single [] x some few e = absurd (omega (arith, some))
 single (y ∷ []) x some few e = ap (λ z. z ∷ []) (sym e)
 single (y ∷ z ∷ l) x some few e = absurd (omega (arith, few))
 
-both : (k v : Bool) → (k && v) ≡ ((k && v) && true)
-both true true = refl
-both true false = refl
-both false v = refl
-
 over-is : (l : List KeyValue) (x : KeyValue) (key : List ℕ) (k v : Bool) → l ≡ x ∷ [] → k ≡ bytes_eq x.key key → v ≡ value_eq x.value (value.Bool true) → (k && v) ≡ set_eq l (record { key = key; value = value.Bool true } ∷ [])
-over-is l x key k v is keys values = both k v ∙ (λ i. (keys i && values i) && true) ∙ ap (λ m. set_eq m (record { key = key; value = value.Bool true } ∷ [])) (sym is)
+over-is l x key k v is keys values = sym (and-true (k && v)) ∙ (λ i. (keys i && values i) && true) ∙ ap (λ m. set_eq m (record { key = key; value = value.Bool true } ∷ [])) (sym is)
 
 pub returns-in-Bool-true : goal.returns-in-Bool-true
 returns-in-Bool-true c =

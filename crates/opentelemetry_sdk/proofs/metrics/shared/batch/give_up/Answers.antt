@@ -1,7 +1,5 @@
-use Rattle.std.proofs.Common.{◌∙◌, ◌<◌, ℕ, [], List, length, ap, map, subst, sym, arith}
-use Rattle.otel_data.specs.declared.numbers.NumberValue.{NumberValue}
+use Rattle.std.proofs.Common.{◌∙◌, ap, map}
 use Rattle.opentelemetry_sdk.specs.pipeline.Pipelines.{part_of}
-use Rattle.opentelemetry_sdk.proofs.Grouping.{each-get}
 use Rattle.opentelemetry_sdk.proofs.Preparing.{idle-parts}
 use Rattle.opentelemetry_sdk.proofs.metrics.shared.batch.give_up.Goals as goal
 

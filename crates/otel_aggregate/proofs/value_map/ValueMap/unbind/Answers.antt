@@ -1,6 +1,0 @@
-use Rattle.std.proofs.Common.{◌∙◌, sym}
-use Rattle.otel_aggregate.proofs.value_map.PlaceLemmas.{sound-nothing}
-use Rattle.otel_aggregate.proofs.value_map.ValueMap.unbind.Goals as goal
-
-pub invariant_of-self : goal.invariant_of-self
-invariant_of-self g c = (c.self.invariant.0 ∙ sym c.release.ensures.counted, c.self.invariant.1, sound-nothing c.release.new.self _ _ c.give_up.new.self c.give_up.ensures)
