@@ -1,5 +1,5 @@
 -- What a map's steps leave of what is known of its handles.
-use Rattle.std.proofs.Common.{◌≡◌, ℕ, Bool, true, false, cond, not, ◌&&◌, ◌||◌, ◌+◌, List, [], ◌∷◌, ◌++◌, drop, fold, Option, Some, None, Result, Ok, Err, ◌⊎◌, inl, inr, is_some, refl, sym, ap, subst, ◌∙◌, nat_eq, true≢false}
+use Rattle.std.proofs.Common.{◌≡◌, ℕ, Bool, true, false, cond, not, ◌&&◌, ◌||◌, ◌+◌, List, [], ◌∷◌, ◌++◌, drop, fold, Option, Some, None, Result, Ok, Err, ◌⊎◌, inl, inr, is_some, refl, sym, ap, subst, ◌∙◌, nat_eq, true≢false, slice_get}
 use Rattle.std.specs.Prelude.{IsSome, OnOk, OnErr, is_none, ◌==◌}
 use Rattle.std.proofs.Math.Bool.{and-false}
 use Rattle.std.specs.Bool.{beq}
@@ -263,6 +263,19 @@ stream-commits {s} {now} seen x values was new live reported within made numbers
         let w : Sample = sample_of s.state.aggregate (amount_of v) in
         each vs (measured_map x w m) all.1
         (stream-recorded seen v w (record was { state = m }) (record was { state = measured_map x w m }) live reported all.0 refl (inr (x, inl refl)) (lead-same was.numbers was.numbers refl live.entries kept.0) kept)
+
+-- values of one number type have the stream's if the first one has it
+pub typed-first : (s : Bool) (values : List NumberValue) (v : NumberValue) → HaveOneType values → Some v ≡ slice_get values 0 → beq (is_signed_value v) s ≡ list_all (λ value. beq (is_signed_value value) s) values
+typed-first s [] v one e = absurd (cc)
+typed-first s (w ∷ ws) v one e = let same : v ≡ w = cc in ap (λ b. beq b s) (ap is_signed_value same ∙ one.1.0) ∙ by (beq one.0 s) refl
+  where
+    all : (vs : List NumberValue) → AllByRecursion (λ value. is_signed_value value ≡ one.0) vs → beq one.0 s ≡ true → list_all (λ value. beq (is_signed_value value) s) vs ≡ true
+    all [] h q = refl
+    all (u ∷ us) h q = λ i. (ap (λ b. beq b s) h.0 ∙ q) i && all us h.1 q i
+
+    by : (b : Bool) → beq one.0 s ≡ b → beq one.0 s ≡ list_all (λ value. beq (is_signed_value value) s) (w ∷ ws)
+    by true q = q ∙ sym (all (w ∷ ws) one.1 q)
+    by false q = q ∙ sym (λ i. (ap (λ b. beq b s) one.1.0 ∙ q) i && list_all (λ value. beq (is_signed_value value) s) ws)
 
 -- a stream of the other number type doesn't change
 pub commits-none : (values : List NumberValue) (a : AggregateContents) → HaveOneType values → list_all (λ value. beq (is_signed_value value) a.is_signed) values ≡ false → a ≡ any_with_commits values a

@@ -217,16 +217,20 @@ impl AggregateStream {
         }
     }
 
-    /// Whether all these values have the stream's number type.
+    /// Whether these values, which have one number type, have the stream's.
     fn takes_each(&self, values: &[NumberValue]) -> bool
+        requires { HaveOneType values.now }
         ensures told { result ≡ list_all (λ value. beq (is_signed_value value) self.now.is_signed) values.now }
         ensures within { result ≡ true → AllByRecursion (λ value. IsWithin self.now.is_signed (amount_of value).wide) values.now }
     {
-        let mut every = true;
         for value in values {
-            every &= self.takes(*value);
+            // Tells the prover that a value of the stream's type is within its range.
+            self.takes(*value);
         }
-        every
+        match values.first() {
+            Some(first) => self.takes(*first),
+            None => true,
+        }
     }
 
     /// Takes in the prepared record, if there is one and the value has the stream's number type. This is the second

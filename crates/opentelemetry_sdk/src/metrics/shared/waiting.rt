@@ -40,6 +40,8 @@ pub(crate) struct Waiting {
     records: Vec<WaitingRecord>,
     /// How many records at the front are made.
     made: usize,
+    /// Whether there may be a record through a handle.
+    bound: bool,
     /// The first records that wait, put together by series, if that was asked for. Once some are made, it is only there to
     /// be let go with them.
     groups: Option<Groups>,
@@ -81,6 +83,7 @@ impl Waiting {
             series: IndexMap::with_hasher(alloc, hasher),
             records: Vec::new(alloc),
             made: 0,
+            bound: false,
             groups: None,
         }
     }
@@ -118,8 +121,8 @@ impl Waiting {
     }
 
     /// How many records wait before the first one through a handle. Where the last one that was made isn't through a
-    /// handle, it answers 0 but once in so many records as there are series, so that little time goes into counting. Where
-    /// the first records are put together, it answers how many these are.
+    /// handle, it answers 0 but once in so many records as there are series, so that little time goes into putting them
+    /// together. Where the first records are put together, it answers how many these are.
     pub(crate) fn count_listed(&self) -> usize {
         if let Some(groups) = self.groups() {
             return groups.records();
@@ -134,6 +137,9 @@ impl Waiting {
 
     /// How many records wait before the first one through a handle.
     fn count_plain(&self) -> usize {
+        if !self.bound {
+            return self.len();
+        }
         self.as_slice()
             .iter()
             .take_while(|record| matches!(record, WaitingRecord::Plain { .. }))
@@ -252,6 +258,7 @@ impl Waiting {
             self.records.rotate_left(self.made);
             self.records.truncate(waiting);
             self.made = 0;
+            self.bound &= waiting > 0;
             self.groups = None;
         }
     }
@@ -282,6 +289,7 @@ impl Waiting {
         if self.made > 0 {
             self.free_made();
         }
+        self.bound |= matches!(given, WaitingRecord::Bound { .. });
         if self.records.push(given).is_err() {
             return Err(Fault::OutOfMemory);
         }
@@ -317,6 +325,7 @@ impl Waiting {
             self.series = IndexMap::with_hasher(*self.series.allocator(), *self.series.hasher());
             self.records.clear();
             self.made = 0;
+            self.bound = false;
             self.groups = None;
         }
     }

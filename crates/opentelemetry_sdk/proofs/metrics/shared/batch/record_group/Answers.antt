@@ -2,7 +2,7 @@ use Rattle.std.proofs.Common.{ℕ, List, sym, subst, arith}
 use Rattle.otel_model.specs.State.{InstrumentState}
 use Rattle.opentelemetry_sdk.specs.Groups.{series_at}
 use Rattle.opentelemetry_sdk.specs.declared.metrics.shared.series.Series.{Series}
-use Rattle.opentelemetry_sdk.proofs.Grouping.{AreTaken, group-alike, group-within, instrument_after_each}
+use Rattle.opentelemetry_sdk.proofs.Grouping.{AreTaken, group-within, instrument_after_each}
 use Rattle.opentelemetry_sdk.proofs.Preparing.{ready-next}
 use Rattle.opentelemetry_sdk.proofs.pipeline.Writes.{set-changed}
 use Rattle.opentelemetry_sdk.proofs.metrics.shared.batch.record_group.Goals as goal
@@ -16,7 +16,7 @@ taken c =
     (subst (λ (is : List InstrumentState). AreTaken is (series_at c.args.waiting.now.series c.args.place).instrument c.args.values.now) k.2.inside.instruments k.2.known.0.taken)
 
 pub change_all-requires : goal.change_all-requires
-change_all-requires c = group-alike c.args.values.now c.requires.alike
+change_all-requires c = c.requires.alike.1
 
 pub index_mut-requires : goal.index_mut-requires
 index_mut-requires c = omega (arith, group-within c.series-series.result.now.instrument c.args.values.now c.args.instruments.now.items c.requires.alike (taken (goal.at.index_mut-requires c).After-series-series))
